@@ -1,0 +1,10 @@
+pub mod ItemLaws
+pub mod BitLaws
+pub mod Signed
+pub mod OperationLaws
+pub mod KindLaws
+pub mod DrawLaws
+pub mod Stack
+pub mod StepLaws
+pub mod IllLaws
+pub mod EvaluationLaws

@@ -1,0 +1,20 @@
+use mir.Syntax.{w32}
+use mir.Val.{toZ, ofZ}
+use borrow.Author.Tests.{lt-ltb, le-ltb}
+use Prim.Native.Nat.{_-_}
+use mathlib.Core.Path.{_≡_}
+use borrow.Author.Needs.{needs}
+use Rattle.grammar.proofs.evaluation.number.Statement.{statement}
+use Rattle.grammar.proofs.evaluation.number.Tie as tie
+
+returns : tie.Need-returns
+returns c =
+    let n = c .from-bits .result in
+    let e : toZ w32 (ofZ w32 n) ≡ n = search needs in
+    rw (lt-ltb _ _ (c .before .if1 .taken), e, c .from-bits .ensures)
+
+returns-2 : tie.Need-returns-2
+returns-2 c = simp (le-ltb _ _ (c .if1 .left))
+
+pub number-spec : {M : Type 1} → statement M
+number-spec = tie.close (tie.spec (λ c. search needs) (λ c κs. search needs) returns returns-2)

@@ -1,0 +1,4 @@
+pub mod Ladder
+pub mod Tests
+pub mod Each
+pub mod Lists
