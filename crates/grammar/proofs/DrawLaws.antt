@@ -5,9 +5,11 @@ use mathlib.Core.List.{List}
 use native.Mathlib.Nat.{div-div-eq-div-mul, div-one}
 use lib.Pow.{pow-add}
 use lib.ListN.{length, getD, drop}
+use native.Mathlib.Omega.{arith}
 use Rattle.laws.proofs.Lists.{next, done}
 use Rattle.grammar.specs.Items.{itemOf}
 use Rattle.grammar.specs.Draws.{drawsIn, drawsOf}
+use Rattle.grammar.proofs.ItemLaws.{no-draw}
 
 module _ (ws : List ℕ) (at : ℕ) where
   pub draws-next : at < length ws → drawsOf (drop at ws) ≡ drawsIn (itemOf (getD ws at 0)) + drawsOf (drop (at + 1) ws)
@@ -27,3 +29,7 @@ module _ (ws : List ℕ) (at : ℕ) where
 
   pub left-done : (left : ℕ) → length ws ≤ at → left / 2 ^ drawsOf (drop at ws) ≡ left
   left-done left h = ap (λ (n : ℕ). left / 2 ^ n) (draws-done h) ∙ div-one left
+
+  -- an operation draws nothing
+  pub draws-operation : at < length ws → getD ws at 0 < 13 → drawsOf (drop at ws) ≡ drawsOf (drop (at + 1) ws)
+  draws-operation h l = omega (arith, draws-next h, no-draw (getD ws at 0) (λ e. omega arith))

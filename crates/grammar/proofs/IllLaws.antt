@@ -5,7 +5,8 @@ use mathlib.Core.List.{List, [], _∷_}
 use native.Mathlib.Omega.{arith}
 use Rattle.grammar.specs.Items.{Read, item, none, itemOf}
 use Rattle.grammar.specs.Run.{Step, push, change, join, runOf}
-use Rattle.grammar.specs.Typing.{Kinded, of, ill, unaryKind, binaryKind, kindedAt, kindedWord, kindStep, kindSteps, judged}
+use Rattle.grammar.specs.Typing.{Kinded, of, ill, unaryKind, binaryKind, kindedAt, kindStep, kindSteps, judged}
+use Rattle.grammar.specs.Inner.{kindedWord}
 use Rattle.grammar.specs.declared.values.«Type».{«Type» as Kind}
 use Rattle.grammar.specs.declared.values.«Type».the-variants.{Boolean, Integer}
 use Rattle.grammar.specs.declared.items.Unary.{Unary}

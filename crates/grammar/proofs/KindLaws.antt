@@ -3,16 +3,17 @@ use Prim.Native.Nat.{ℕ, zero, suc, _≤_, _<_, _/_, _%_}
 use mathlib.Core.Path.{_≡_, refl, sym, ap, _∙_}
 use mathlib.Core.Bool.{cond}
 use mathlib.Core.List.{List, [], _∷_}
-use native.Mathlib.Nat.{not-suc-le-zero, le-of-suc-le-suc}
+use native.Mathlib.Nat.{lt-irrefl, not-suc-le-zero, le-of-suc-le-suc}
 use native.Mathlib.Omega.{arith}
 use borrow.Author.Tests.{eqb-false, le-leb, lt-leb}
-use lib.Dec.{eqb}
+use lib.Dec.{eqb, lit≤}
 use lib.ListN.{length, getD}
 use Rattle.laws.proofs.Ladder.{passed, stopped}
 use Rattle.grammar.specs.Values.{kindWord}
 use Rattle.grammar.specs.Items.{Read, operandOf, takesOf, itemOf}
 use Rattle.grammar.specs.Run.{made, gives}
-use Rattle.grammar.specs.Typing.{Kinded, of, ill, takes1, takes2, alike, kindedAt, kindedWord, operandKind, kindStep, judged}
+use Rattle.grammar.specs.Typing.{Kinded, of, ill, takes1, takes2, alike, kindedAt, kindStep, judged}
+use Rattle.grammar.specs.Inner.{rowOf, kindedWord, operandKind}
 use Rattle.grammar.specs.declared.values.«Type».{«Type» as Kind}
 use Rattle.grammar.specs.declared.values.«Type».the-variants.{Boolean, Integer}
 use Rattle.grammar.specs.declared.typing.Typed.the-variants.{Known, TableFull}
@@ -77,11 +78,11 @@ getD-any (x ∷ xs) zero a b h = refl
 getD-any (x ∷ xs) (suc i) a b h = getD-any xs i a b (le-of-suc-le-suc h)
 
 -- a word above 13 is an operand or nothing
-pub operand-word : (kinds : List ℕ) (a b : Kinded) (w : ℕ) → 14 ≤ w → operandKind kinds (operandOf (w % 256) (w / 256)) ≡ made (kindStep kinds (itemOf w)) a b
+pub operand-word : (kinds : List ℕ) (w : ℕ) → 14 ≤ w → operandKind kinds (operandOf (w % 256) (w / 256)) ≡ made (kindStep kinds (itemOf w)) ill ill
 unfolding operandKind
-operand-word kinds a b w h =
-    operand-any (λ (r : Read). operandKind kinds r ≡ made (kindStep kinds r) a b) (λ v. refl) (λ n. refl) refl (w % 256) (w / 256)
-    ∙ ap (λ (r : Read). made (kindStep kinds r) a b) (sym (high w h))
+operand-word kinds w h =
+    operand-any (λ (r : Read). operandKind kinds r ≡ made (kindStep kinds r) ill ill) (λ v. refl) (w % 256) (w / 256) refl refl
+    ∙ ap (λ (r : Read). made (kindStep kinds r) ill ill) (sym (high w h))
 
 -- a kind is known, if no more than 16 operands waited
 pub judged-deep : (n most : ℕ) → n ≤ 1 → 16 < most → TableFull ≡ judged (gives (kindedAt n)) most
@@ -93,30 +94,39 @@ pub judged-known : (k : Kind) (most : ℕ) → most ≤ 16 → Known k ≡ judge
 judged-known k most d = passed TableFull (le-leb most 16 d) refl
 
 -- the tables of the code
-abbrev wants : List ℕ
-wants = 2 ∷ 0 ∷ 0 ∷ 0 ∷ 1 ∷ 1 ∷ 1 ∷ 1 ∷ 1 ∷ 1 ∷ 2 ∷ 1 ∷ 1 ∷ 2 ∷ []
+abbrev wants : ℕ
+wants = 157635842
 
-abbrev gives′ : List ℕ
-gives′ = 2 ∷ 0 ∷ 0 ∷ 0 ∷ 1 ∷ 1 ∷ 1 ∷ 1 ∷ 1 ∷ 1 ∷ 0 ∷ 0 ∷ 0 ∷ 0 ∷ []
+abbrev gives′ : ℕ
+gives′ = 349442
 
 module _ (a b : ℕ) (h : a ≤ 1) (l : b ≤ 1) where
-  pub gives-none : (w : ℕ) → w < 14 → takesOf (itemOf w) ≡ 0 → getD gives′ w 0 ≡ kindedWord (made (kindStep [] (itemOf w)) (kindedAt a) (kindedAt b))
-  gives-none =
-      low-any (λ (w : ℕ) (r : Read). takesOf r ≡ 0 → getD gives′ w 0 ≡ kindedWord (made (kindStep [] r) (kindedAt a) (kindedAt b)))
-      ((λ e. refl), ((λ e. absurd (eqb-false _ _ refl e)), ((λ e. absurd (eqb-false _ _ refl e)), ((λ e. absurd (eqb-false _ _ refl e)), ((λ e. absurd (eqb-false _ _ refl e)), ((λ e. absurd (eqb-false _ _ refl e)), ((λ e. absurd (eqb-false _ _ refl e)), ((λ e. absurd (eqb-false _ _ refl e)), ((λ e. absurd (eqb-false _ _ refl e)), ((λ e. absurd (eqb-false _ _ refl e)), ((λ e. absurd (eqb-false _ _ refl e)), ((λ e. absurd (eqb-false _ _ refl e)), ((λ e. absurd (eqb-false _ _ refl e)), ((λ e. refl), tt))))))))))))))
+  pub gives-none : (w : ℕ) → w < 13 → takesOf (itemOf w) ≡ 0 → 2 ≡ kindedWord (made (kindStep [] (itemOf w)) (kindedAt a) (kindedAt b))
+  gives-none w l′ e =
+      low-any 14 (lit≤ tt) (λ (w : ℕ) (r : Read). w < 13 → takesOf r ≡ 0 → 2 ≡ kindedWord (made (kindStep [] r) (kindedAt a) (kindedAt b)))
+      ((λ i e. refl), ((λ i e. absurd (eqb-false _ _ refl e)), ((λ i e. absurd (eqb-false _ _ refl e)), ((λ i e. absurd (eqb-false _ _ refl e)), ((λ i e. absurd (eqb-false _ _ refl e)), ((λ i e. absurd (eqb-false _ _ refl e)), ((λ i e. absurd (eqb-false _ _ refl e)), ((λ i e. absurd (eqb-false _ _ refl e)), ((λ i e. absurd (eqb-false _ _ refl e)), ((λ i e. absurd (eqb-false _ _ refl e)), ((λ i e. absurd (eqb-false _ _ refl e)), ((λ i e. absurd (eqb-false _ _ refl e)), ((λ i e. absurd (eqb-false _ _ refl e)), ((λ i e. absurd (lt-irrefl 13 i)), tt))))))))))))))
+      w (omega arith) l′ e
 
-  pub gives-one : (w : ℕ) → w < 14 → takesOf (itemOf w) ≡ 1 → cond (eqb a (getD wants w 0)) (getD gives′ w 0) 2 ≡ kindedWord (made (kindStep [] (itemOf w)) (kindedAt a) (kindedAt b))
+  pub gives-one : (w : ℕ) → w < 14 → takesOf (itemOf w) ≡ 1 → cond (eqb a (rowOf wants w)) (rowOf gives′ w) 2 ≡ kindedWord (made (kindStep [] (itemOf w)) (kindedAt a) (kindedAt b))
   gives-one =
-      low-any (λ (w : ℕ) (r : Read). takesOf r ≡ 1 → cond (eqb a (getD wants w 0)) (getD gives′ w 0) 2 ≡ kindedWord (made (kindStep [] r) (kindedAt a) (kindedAt b)))
+      low-any 14 (lit≤ tt) (λ (w : ℕ) (r : Read). takesOf r ≡ 1 → cond (eqb a (rowOf wants w)) (rowOf gives′ w) 2 ≡ kindedWord (made (kindStep [] r) (kindedAt a) (kindedAt b)))
       ((λ e. absurd (eqb-false _ _ refl e)), ((λ e. one-kind Boolean Boolean a h), ((λ e. absurd (eqb-false _ _ refl e)), ((λ e. absurd (eqb-false _ _ refl e)), ((λ e. one-kind Integer Integer a h), ((λ e. absurd (eqb-false _ _ refl e)), ((λ e. absurd (eqb-false _ _ refl e)), ((λ e. absurd (eqb-false _ _ refl e)), ((λ e. absurd (eqb-false _ _ refl e)), ((λ e. absurd (eqb-false _ _ refl e)), ((λ e. absurd (eqb-false _ _ refl e)), ((λ e. absurd (eqb-false _ _ refl e)), ((λ e. absurd (eqb-false _ _ refl e)), ((λ e. absurd (eqb-false _ _ refl e)), tt))))))))))))))
 
-  pub gives-two : (w : ℕ) → w < 14 → takesOf (itemOf w) ≡ 2 → (w ≡ 10 → ⊥) → cond (eqb a (getD wants w 0)) (cond (eqb b (getD wants w 0)) (getD gives′ w 0) 2) 2 ≡ kindedWord (made (kindStep [] (itemOf w)) (kindedAt a) (kindedAt b))
+  pub gives-two : (w : ℕ) → w < 14 → takesOf (itemOf w) ≡ 2 → (w ≡ 10 → ⊥) → cond (eqb a (rowOf wants w)) (cond (eqb b (rowOf wants w)) (rowOf gives′ w) 2) 2 ≡ kindedWord (made (kindStep [] (itemOf w)) (kindedAt a) (kindedAt b))
   gives-two =
-      low-any (λ (w : ℕ) (r : Read). takesOf r ≡ 2 → (w ≡ 10 → ⊥) → cond (eqb a (getD wants w 0)) (cond (eqb b (getD wants w 0)) (getD gives′ w 0) 2) 2 ≡ kindedWord (made (kindStep [] r) (kindedAt a) (kindedAt b)))
+      low-any 14 (lit≤ tt) (λ (w : ℕ) (r : Read). takesOf r ≡ 2 → (w ≡ 10 → ⊥) → cond (eqb a (rowOf wants w)) (cond (eqb b (rowOf wants w)) (rowOf gives′ w) 2) 2 ≡ kindedWord (made (kindStep [] r) (kindedAt a) (kindedAt b)))
       ((λ e x. absurd (eqb-false _ _ refl e)), ((λ e x. absurd (eqb-false _ _ refl e)), ((λ e x. two-kinds Boolean Boolean a b h l), ((λ e x. two-kinds Boolean Boolean a b h l), ((λ e x. absurd (eqb-false _ _ refl e)), ((λ e x. two-kinds Integer Integer a b h l), ((λ e x. two-kinds Integer Integer a b h l), ((λ e x. two-kinds Integer Integer a b h l), ((λ e x. two-kinds Integer Integer a b h l), ((λ e x. two-kinds Integer Integer a b h l), ((λ e x. absurd (x refl)), ((λ e x. two-kinds Integer Boolean a b h l), ((λ e x. two-kinds Integer Boolean a b h l), ((λ e x. absurd (eqb-false _ _ refl e)), tt))))))))))))))
 
 -- an operation does not look at the variables
 pub no-variables : (kinds : List ℕ) (a b : Kinded) (w : ℕ) → w < 14 → made (kindStep [] (itemOf w)) a b ≡ made (kindStep kinds (itemOf w)) a b
 no-variables kinds a b =
-    low-any (λ (w : ℕ) (r : Read). made (kindStep [] r) a b ≡ made (kindStep kinds r) a b)
+    low-any 14 (lit≤ tt) (λ (w : ℕ) (r : Read). made (kindStep [] r) a b ≡ made (kindStep kinds r) a b)
     (refl, (refl, (refl, (refl, (refl, (refl, (refl, (refl, (refl, (refl, (refl, (refl, (refl, (refl, tt))))))))))))))
+
+-- an operation that gives a kind takes an operand
+pub kind-takes : (a b : Kinded) (w : ℕ) → w < 13 → kindedWord (made (kindStep [] (itemOf w)) a b) ≤ 1 → 1 ≤ takesOf (itemOf w)
+kind-takes a b =
+    low-any 13 (lit≤ tt) (λ (w : ℕ) (r : Read). kindedWord (made (kindStep [] r) a b) ≤ 1 → 1 ≤ takesOf r) (
+      (λ h. absurd (omega arith)),
+      ((λ h. lit≤ tt), ((λ h. lit≤ tt), ((λ h. lit≤ tt), ((λ h. lit≤ tt), ((λ h. lit≤ tt), ((λ h. lit≤ tt), ((λ h. lit≤ tt), ((λ h. lit≤ tt), ((λ h. lit≤ tt), ((λ h. lit≤ tt), ((λ h. lit≤ tt), ((λ h. lit≤ tt), tt)))))))))))),
+    )

@@ -7,4 +7,5 @@ pub mod DrawLaws
 pub mod Stack
 pub mod StepLaws
 pub mod IllLaws
+pub mod HeldLaws
 pub mod EvaluationLaws

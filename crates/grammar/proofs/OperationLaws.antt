@@ -1,12 +1,17 @@
 -- Which words are operations on which values: for the arms of a `match` that take the rest.
 use Prim.Native.Nat.{ℕ, _≤_, _<_, _/_, _%_}
-use mathlib.Core.Path.{_≡_, refl, sym, ap, _∙_}
-use mathlib.Core.Bool.{Bool}
-use mathlib.Core.List.{List}
+use mathlib.Core.Path.{_≡_, refl, sym, ap, _∙_, subst}
+use mathlib.Core.Bool.{Bool, true, false, cond}
+use native.Mathlib.Decide.{decLt}
+use native.Mathlib.Omega.{arith}
+use lib.Dec.{ltb, lit≤}
+use lib.ListN.{getD}
+use mathlib.Core.List.{List, []}
 use lib.IntN.{ℤ}
 use Rattle.grammar.specs.Items.{Read, item, none, operandOf, itemOf}
 use Rattle.grammar.specs.Run.{made}
-use Rattle.grammar.specs.Evaluation.{valuesOn, binaryOn, operandValue, valueStep}
+use Rattle.grammar.specs.Evaluation.{blank, valueStep}
+use Rattle.grammar.specs.Inner.{slotOf, valuesOn, binaryOn, operandOn}
 use Rattle.grammar.specs.declared.values.Val.{Val}
 use Rattle.grammar.specs.declared.values.Val.the-variants.{Boolean, Integer}
 use Rattle.grammar.specs.declared.values.Slot.{Slot}
@@ -141,31 +146,54 @@ both-known (item (Item.Variable n)) a b = refl
 both-known (item Item.Draw) a b = refl
 both-known none a b = refl
 
--- a word up to 13 and none of 1, 4 and 13 is a binary operation or nothing
-pub binary-word : (vars : List Slot) (left : ℕ) (a b : Evaluated) (w : ℕ) → w < 14 → (((Unit {0} × (w ≡ 1 → ⊥)) × (w ≡ 4 → ⊥)) × (w ≡ 13 → ⊥)) → binaryOn (itemOf w) a b ≡ made (valueStep vars left (itemOf w)) a b
+-- a word below 13 and neither 1 nor 4 is a binary operation or nothing
+pub binary-word : (a b : Evaluated) (w : ℕ) → w < 13 → ((Unit {0} × (w ≡ 1 → ⊥)) × (w ≡ 4 → ⊥)) → binaryOn (itemOf w) a b ≡ made (valueStep [] 0 (itemOf w)) a b
 unfolding binaryOn
-binary-word vars left a b =
-    low-any
-    (λ (w : ℕ) (r : Read). (((Unit {0} × (w ≡ 1 → ⊥)) × (w ≡ 4 → ⊥)) × (w ≡ 13 → ⊥)) → binaryOn r a b ≡ made (valueStep vars left r) a b) (
+binary-word a b =
+    low-any 13 (lit≤ tt)
+    (λ (w : ℕ) (r : Read). ((Unit {0} × (w ≡ 1 → ⊥)) × (w ≡ 4 → ⊥)) → binaryOn r a b ≡ made (valueStep [] 0 r) a b) (
       (λ n. refl),
       (
-        (λ n. absurd (n .0 .0 .1 refl)),
+        (λ n. absurd (n .0 .1 refl)),
         (
           (λ n. refl),
           (
             (λ n. refl),
             (
-              (λ n. absurd (n .0 .1 refl)),
-              ((λ n. refl), ((λ n. refl), ((λ n. refl), ((λ n. refl), ((λ n. refl), ((λ n. refl), ((λ n. refl), ((λ n. refl), ((λ n. absurd (n .1 refl)), tt))))))))),
+              (λ n. absurd (n .1 refl)),
+              ((λ n. refl), ((λ n. refl), ((λ n. refl), ((λ n. refl), ((λ n. refl), ((λ n. refl), ((λ n. refl), ((λ n. refl), tt)))))))),
             ),
           ),
         ),
       ),
     )
 
--- a word above 13 is an operand or nothing
-pub operand-word : (vars : List Slot) (left : ℕ) (a b : Evaluated) (w : ℕ) → 14 ≤ w → operandValue vars (operandOf (w % 256) (w / 256)) ≡ made (valueStep vars left (itemOf w)) a b
-unfolding operandValue
-operand-word vars left a b w h =
-    operand-any (λ (r : Read). operandValue vars r ≡ made (valueStep vars left r) a b) (λ v. refl) (λ n. refl) refl (w % 256) (w / 256)
-    ∙ ap (λ (r : Read). made (valueStep vars left r) a b) (sym (high w h))
+-- an operation looks neither at the variables nor at the word
+pub no-variables : (vars : List Slot) (left : ℕ) (a b : Evaluated) (w : ℕ) → w < 13 → made (valueStep [] 0 (itemOf w)) a b ≡ made (valueStep vars left (itemOf w)) a b
+no-variables vars left a b =
+    low-any 13 (lit≤ tt) (λ (w : ℕ) (r : Read). made (valueStep [] 0 r) a b ≡ made (valueStep vars left r) a b)
+    (refl, (refl, (refl, (refl, (refl, (refl, (refl, (refl, (refl, (refl, (refl, (refl, (refl, tt)))))))))))))
+
+-- what a constant's or a variable's word adds does not look at the word that is drawn from
+pub no-word : (x : Val) (left w : ℕ) → 14 ≤ w → operandOn x (w / 256) 0 (operandOf (w % 256) (w / 256)) ≡ operandOn x (w / 256) left (itemOf w)
+unfolding operandOn
+no-word x left w h =
+    operand-any (λ (r : Read). operandOn x (w / 256) 0 r ≡ operandOn x (w / 256) left r) (λ v. refl) (w % 256) (w / 256) refl refl
+    ∙ ap (operandOn x (w / 256) left) (sym (high w h))
+
+-- what a word from 13 on adds, where x is what its variable holds
+looked-up : (vars : List Slot) (k : ℕ) (t : Bool) → cond t (Known (getD vars (cond t k 0) blank .value)) NoValue ≡ cond t (Known (getD vars k blank .value)) NoValue
+looked-up vars k true = refl
+looked-up vars k false = refl
+
+pub operand-word : (vars : List Slot) (left : ℕ) (a b : Evaluated) (w : ℕ) → 13 ≤ w → operandOn (getD vars (slotOf w) blank .value) (w / 256) left (itemOf w) ≡ made (valueStep vars left (itemOf w)) a b
+unfolding operandOn itemOf
+operand-word vars left a b w h = by (decLt 13 w)
+  where
+    by : Dec (13 < w) → operandOn (getD vars (slotOf w) blank .value) (w / 256) left (itemOf w) ≡ made (valueStep vars left (itemOf w)) a b
+    by (yes l) =
+        subst (λ (r : Read). operandOn (getD vars (slotOf w) blank .value) (w / 256) left r ≡ made (valueStep vars left r) a b) (sym (high w l))
+        (operand-any (λ (r : Read). operandOn (getD vars (slotOf w) blank .value) (w / 256) left r ≡ made (valueStep vars left r) a b) (λ v. refl) (w % 256) (w / 256) (looked-up vars (w / 256) (ltb (w / 256) 16)) refl)
+    by (no l) =
+        let e : w ≡ 13 = omega arith in
+        rw e

@@ -92,31 +92,6 @@ variableOf vars n = cond (ltb n 16) (Known (getD vars n blank .value)) NoValue
 abbrev pub drawOf : ℕ → Evaluated
 drawOf left = boolean (eqb (left % 2) 1)
 
--- what a word says as an operation on two values, as one on two operands, and as an operand: no value where it is none
-unfoldable pub valuesOn : Read → Val → Val → Evaluated
-valuesOn (item (Item.Binary o)) a b = valuesOf o a b
-valuesOn (item (Item.Unary u)) a b = NoValue
-valuesOn (item (Item.Constant v)) a b = NoValue
-valuesOn (item (Item.Variable n)) a b = NoValue
-valuesOn (item Item.Draw) a b = NoValue
-valuesOn none a b = NoValue
-
-unfoldable pub binaryOn : Read → Evaluated → Evaluated → Evaluated
-binaryOn (item (Item.Binary o)) a b = binaryOf o a b
-binaryOn (item (Item.Unary u)) a b = NoValue
-binaryOn (item (Item.Constant v)) a b = NoValue
-binaryOn (item (Item.Variable n)) a b = NoValue
-binaryOn (item Item.Draw) a b = NoValue
-binaryOn none a b = NoValue
-
-unfoldable pub operandValue : List Slot → Read → Evaluated
-operandValue vars (item (Item.Constant v)) = Known v
-operandValue vars (item (Item.Variable n)) = variableOf vars n
-operandValue vars (item (Item.Unary u)) = NoValue
-operandValue vars (item (Item.Binary b)) = NoValue
-operandValue vars (item Item.Draw) = NoValue
-operandValue vars none = NoValue
-
 abbrev pub valueStep : List Slot → ℕ → Read → Step Evaluated
 valueStep vars left (item (Item.Constant v)) = push (Known v)
 valueStep vars left (item (Item.Variable n)) = push (variableOf vars n)

@@ -6,3 +6,4 @@ pub mod Run
 pub mod Typing
 pub mod Arith
 pub mod Evaluation
+pub mod Inner

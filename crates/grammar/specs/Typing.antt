@@ -74,22 +74,9 @@ kindedAt zero = of Boolean
 kindedAt (suc zero) = of Integer
 kindedAt (suc (suc n)) = ill
 
-abbrev pub kindedWord : Kinded → ℕ
-kindedWord (of k) = kindWord k
-kindedWord ill = 2
-
 -- variable n, where the variables' kinds are these words
 abbrev pub variableKind : List ℕ → ℕ → Kinded
 variableKind kinds n = kindedAt (getD kinds n 2)
-
--- what stands for an operand
-unfoldable pub operandKind : List ℕ → Read → Kinded
-operandKind kinds (item (Item.Constant v)) = of (kindOf v)
-operandKind kinds (item (Item.Variable n)) = variableKind kinds n
-operandKind kinds (item (Item.Unary u)) = ill
-operandKind kinds (item (Item.Binary b)) = ill
-operandKind kinds (item Item.Draw) = ill
-operandKind kinds none = ill
 
 abbrev pub kindStep : List ℕ → Read → Step Kinded
 kindStep kinds (item (Item.Constant v)) = push (of (kindOf v))

@@ -7,22 +7,19 @@ use crate::values::Slot;
 use crate::values::Val;
 ghost use mathlib.Core.Path.{_≡_};
 ghost use mathlib.Core.Bool.{cond};
+ghost use mathlib.Core.List.{[]};
+ghost use Prim.Native.Nat.{_/_, _%_, _≤_, _<_};
 ghost use lib.Dec.{eqb, ltb};
-ghost use Prim.Native.Nat.{_/_, _%_};
-ghost use Rattle.grammar.specs.Items.{itemOf, operandOf};
 ghost use Rattle.grammar.specs.Bits.{fromBits};
+ghost use Rattle.grammar.specs.Items.{itemOf, operandOf};
 ghost use Rattle.grammar.specs.Run.{made};
 ghost use Rattle.grammar.specs.Arith.{fitted};
-ghost use Rattle.grammar.specs.Evaluation.{unaryOf, valuesOn, binaryOn, variableOf, operandValue, valueStep, evaluationOf};
+ghost use Rattle.grammar.specs.Evaluation.{unaryOf, valueStep, evaluationOf};
+ghost use Rattle.grammar.specs.Inner.{heldOf, valuesOn, binaryOn, operandOn, noValueOf};
 
 pub enum Evaluated {
     Known(Val),
     NoValue,
-}
-
-// An operand that waits: it may have no value.
-pub struct Waiting {
-    pub value: Evaluated,
 }
 
 // A value or none, and what is left of the word for the next expression.
@@ -31,22 +28,84 @@ pub struct Evaluation {
     pub rest: u64,
 }
 
+// An operand that waits: a kind, and a boolean or an integer as a number.
+struct Waiting {
+    kind: u32,
+    number: i32,
+}
+
+// The kinds of operands; one of any other kind has no value.
+const NONE: u32 = 0;
+
+const BOOLEAN: u32 = 1;
+
+const INTEGER: u32 = 2;
+
+fn none() -> Waiting
+    ensures { λ r. ⌜ heldOf r ≡ Evaluated.NoValue ⌝ }
+{
+    Waiting {
+        kind: NONE,
+        number: 0,
+    }
+}
+
+fn boolean(b: bool) -> Waiting
+    ensures { λ r. ⌜ heldOf r ≡ Evaluated.Known (Val.Boolean b) ⌝ }
+{
+    Waiting {
+        kind: BOOLEAN,
+        number: b as i32,
+    }
+}
+
+fn integer(n: i32) -> Waiting
+    ensures { λ r. ⌜ heldOf r ≡ Evaluated.Known (Val.Integer n) ⌝ }
+{
+    Waiting {
+        kind: INTEGER,
+        number: n,
+    }
+}
+
+fn of_value(v: Val) -> Waiting
+    ensures { λ r. ⌜ heldOf r ≡ Evaluated.Known v ⌝ }
+{
+    match v {
+        Val::Boolean(b) => boolean(b),
+        Val::Integer(n) => integer(n),
+    }
+}
+
+// The value that waits.
+fn held(w: Waiting) -> Evaluated
+    ensures { λ r. ⌜ r ≡ heldOf w ⌝ }
+{
+    let kind = w.kind;
+    let number = w.number;
+    match kind {
+        BOOLEAN => Evaluated::Known(Val::Boolean(number != 0)),
+        INTEGER => Evaluated::Known(Val::Integer(number)),
+        _ => Evaluated::NoValue,
+    }
+}
+
 // The integer where it has 32 bits.
-fn in_range(z: i64) -> Evaluated
-    ensures { λ r. ⌜ r ≡ fitted z ⌝ }
+fn in_range(z: i64) -> Waiting
+    ensures { λ r. ⌜ heldOf r ≡ fitted z ⌝ }
 {
     if z < -2147483648 {
-        return Evaluated::NoValue;
+        return none();
     }
     if 2147483647 < z {
-        return Evaluated::NoValue;
+        return none();
     }
-    Evaluated::Known(Val::Integer(z as i32))
+    integer(z as i32)
 }
 
 // The operation of a word on two integers: exact at 64 bits, then cut to 32.
-fn integers(w: u64, a: i32, b: i32) -> Evaluated
-    ensures { λ r. ⌜ r ≡ valuesOn (itemOf w) (Val.Integer a) (Val.Integer b) ⌝ }
+fn integers(w: u64, a: i32, b: i32) -> Waiting
+    ensures { λ r. ⌜ heldOf r ≡ valuesOn (itemOf w) (Val.Integer a) (Val.Integer b) ⌝ }
 {
     let x = a as i64;
     let y = b as i64;
@@ -54,194 +113,184 @@ fn integers(w: u64, a: i32, b: i32) -> Evaluated
         items::ADD => in_range(x + y),
         items::SUBTRACT => in_range(x - y),
         items::MULTIPLY => in_range(x * y),
-        items::DIVIDE => {
-            if y == 0 {
-                Evaluated::NoValue
-            } else {
-                in_range(x / y)
-            }
-        }
-        items::REMAINDER => {
-            if y == 0 {
-                Evaluated::NoValue
-            } else {
-                in_range(x % y)
-            }
-        }
-        items::EQUAL => Evaluated::Known(Val::Boolean(x == y)),
-        items::LESS => Evaluated::Known(Val::Boolean(x < y)),
-        items::LESS_OR_EQUAL => Evaluated::Known(Val::Boolean(x <= y)),
-        _ => Evaluated::NoValue,
+        items::DIVIDE => { if y == 0 { none() } else { in_range(x / y) } }
+        items::REMAINDER => { if y == 0 { none() } else { in_range(x % y) } }
+        items::EQUAL => boolean(x == y),
+        items::LESS => boolean(x < y),
+        items::LESS_OR_EQUAL => boolean(x <= y),
+        _ => none(),
     }
 }
 
-fn booleans(w: u64, a: bool, b: bool) -> Evaluated
-    ensures { λ r. ⌜ r ≡ valuesOn (itemOf w) (Val.Boolean a) (Val.Boolean b) ⌝ }
+fn booleans(w: u64, a: bool, b: bool) -> Waiting
+    ensures { λ r. ⌜ heldOf r ≡ valuesOn (itemOf w) (Val.Boolean a) (Val.Boolean b) ⌝ }
 {
     match w {
-        items::AND => Evaluated::Known(Val::Boolean(a & b)),
-        items::OR => Evaluated::Known(Val::Boolean(a | b)),
-        items::EQUAL => Evaluated::Known(Val::Boolean(a == b)),
-        _ => Evaluated::NoValue,
+        items::AND => boolean(a & b),
+        items::OR => boolean(a | b),
+        items::EQUAL => boolean(a == b),
+        _ => none(),
     }
 }
 
-fn values(w: u64, a: Val, b: Val) -> Evaluated
-    ensures { λ r. ⌜ r ≡ valuesOn (itemOf w) a b ⌝ }
+// The operation of a word on two operands, which have to be of one kind.
+fn binary(w: u64, a: Waiting, b: Waiting) -> Waiting
+    ensures { λ r. ⌜ heldOf r ≡ binaryOn (itemOf w) (heldOf a) (heldOf b) ⌝ }
 {
-    match a {
-        Val::Integer(x) => match b {
-            Val::Integer(y) => integers(w, x, y),
-            Val::Boolean(_) => Evaluated::NoValue,
-        },
-        Val::Boolean(x) => match b {
-            Val::Boolean(y) => booleans(w, x, y),
-            Val::Integer(_) => Evaluated::NoValue,
-        },
+    let kind = a.kind;
+    if b.kind != kind {
+        return none();
+    }
+    let x = a.number;
+    let y = b.number;
+    match kind {
+        BOOLEAN => booleans(w, x != 0, y != 0),
+        INTEGER => integers(w, x, y),
+        _ => none(),
     }
 }
 
-// The operation of a word on two operands.
-fn binary(w: u64, a: Evaluated, b: Evaluated) -> Evaluated
-    ensures { λ r. ⌜ r ≡ binaryOn (itemOf w) a b ⌝ }
+fn not(a: Waiting) -> Waiting
+    ensures { λ r. ⌜ heldOf r ≡ unaryOf Unary.Not (heldOf a) ⌝ }
 {
-    let Evaluated::Known(x) = a else {
-        return Evaluated::NoValue;
-    };
-    let Evaluated::Known(y) = b else {
-        return Evaluated::NoValue;
-    };
-    values(w, x, y)
-}
-
-fn not(a: Evaluated) -> Evaluated
-    ensures { λ r. ⌜ r ≡ unaryOf Unary.Not a ⌝ }
-{
-    let Evaluated::Known(v) = a else {
-        return Evaluated::NoValue;
-    };
-    match v {
-        Val::Boolean(x) => Evaluated::Known(Val::Boolean(!x)),
-        Val::Integer(_) => Evaluated::NoValue,
+    let kind = a.kind;
+    let x = a.number;
+    match kind {
+        BOOLEAN => boolean(x == 0),
+        _ => none(),
     }
 }
 
-fn negate(a: Evaluated) -> Evaluated
-    ensures { λ r. ⌜ r ≡ unaryOf Unary.Negate a ⌝ }
+fn negate(a: Waiting) -> Waiting
+    ensures { λ r. ⌜ heldOf r ≡ unaryOf Unary.Negate (heldOf a) ⌝ }
 {
-    let Evaluated::Known(v) = a else {
-        return Evaluated::NoValue;
-    };
-    match v {
-        Val::Integer(x) => integers(items::SUBTRACT, 0, x),
-        Val::Boolean(_) => Evaluated::NoValue,
+    let kind = a.kind;
+    let x = a.number;
+    match kind {
+        INTEGER => integers(items::SUBTRACT, 0, x),
+        _ => none(),
     }
 }
 
-fn truth(payload: u64) -> Evaluated
-    ensures { λ r. ⌜ r ≡ cond (ltb payload 2) (Evaluated.Known (Val.Boolean (eqb payload 1))) Evaluated.NoValue ⌝ }
+// What the operation of a word makes of its operands; a word that is none has no value.
+fn operation(w: u64, a: Waiting, b: Waiting) -> Waiting
+    requires { ⌜ w < 13 ⌝ }
+    ensures { λ r. ⌜ heldOf r ≡ made (valueStep [] 0 (itemOf w)) (heldOf a) (heldOf b) ⌝ }
+{
+    match w {
+        items::NOT => not(a),
+        items::NEGATE => negate(a),
+        _ => binary(w, a, b),
+    }
+}
+
+fn truth(payload: u64) -> Waiting
+    ensures { λ r. ⌜ heldOf r ≡ cond (ltb payload 2) (Evaluated.Known (Val.Boolean (eqb payload 1))) Evaluated.NoValue ⌝ }
 {
     if payload < 2 {
-        return Evaluated::Known(Val::Boolean(payload == 1));
+        return boolean(payload == 1);
     }
-    Evaluated::NoValue
+    none()
 }
 
-fn number(payload: u64) -> Evaluated
-    ensures { λ r. ⌜ r ≡ cond (ltb payload 4294967296) (Evaluated.Known (Val.Integer (fromBits payload))) Evaluated.NoValue ⌝ }
+fn number(payload: u64) -> Waiting
+    ensures { λ r. ⌜ heldOf r ≡ cond (ltb payload 4294967296) (Evaluated.Known (Val.Integer (fromBits payload))) Evaluated.NoValue ⌝ }
 {
     if payload < 4294967296 {
-        return Evaluated::Known(Val::Integer(bits::from_bits(payload as u32)));
+        return integer(bits::from_bits(payload as u32));
     }
-    Evaluated::NoValue
+    none()
 }
 
-fn variable(vars: [Slot; 16], n: u64) -> Evaluated
-    ensures { λ r. ⌜ r ≡ variableOf vars n ⌝ }
+// The value x of a variable, if there is one of this number.
+fn variable(n: u64, x: Val) -> Waiting
+    ensures { λ r. ⌜ heldOf r ≡ cond (ltb n 16) (Evaluated.Known x) Evaluated.NoValue ⌝ }
 {
     if n < 16 {
-        let i = n as usize;
-        let s = vars[i];
-        let v = s.value;
-        return Evaluated::Known(v);
+        return of_value(x);
     }
-    Evaluated::NoValue
+    none()
 }
 
-// The value of a word that is no operation: a constant or a variable.
-fn operand(vars: [Slot; 16], w: u64) -> Evaluated
-    ensures { λ r. ⌜ r ≡ operandValue vars (operandOf (w % 256) (w / 256)) ⌝ }
+// The operand that a word adds: a constant, or x, the value of the variable that it names.
+fn constant(w: u64, x: Val) -> Waiting
+    ensures { λ r. ⌜ heldOf r ≡ operandOn x (w / 256) 0 (operandOf (w % 256) (w / 256)) ⌝ }
 {
     let op = w % 256;
     let payload = w / 256;
     match op {
         items::TRUTH => truth(payload),
         items::NUMBER => number(payload),
-        items::VARIABLE => variable(vars, payload),
-        _ => Evaluated::NoValue,
+        items::VARIABLE => variable(payload, x),
+        _ => none(),
     }
 }
 
-// The value that a word gives: a and b are its operands, where it takes them.
-fn apply(vars: [Slot; 16], word: u64, w: u64, a: Evaluated, b: Evaluated) -> Evaluated
-    ensures { λ r. ⌜ r ≡ made (valueStep vars word (itemOf w)) a b ⌝ }
+fn operand(w: u64, x: Val, left: u64) -> Waiting
+    requires { ⌜ 13 ≤ w ⌝ }
+    ensures { λ r. ⌜ heldOf r ≡ operandOn x (w / 256) left (itemOf w) ⌝ }
 {
-    if items::DRAW < w {
-        return operand(vars, w);
+    if w == items::DRAW {
+        return boolean(left % 2 == 1);
     }
-    match w {
-        items::NOT => not(a),
-        items::NEGATE => negate(a),
-        items::DRAW => Evaluated::Known(Val::Boolean(word % 2 == 1)),
-        _ => binary(w, a, b),
+    constant(w, x)
+}
+
+// What sticks or is too deep has no value, and its draws count all the same.
+fn no_value(items: &[u64], word: u64) -> Evaluation
+    ensures { λ r. ⌜ r ≡ noValueOf word (now (items .entry)) ⌝ }
+{
+    Evaluation {
+        value: Evaluated::NoValue,
+        rest: draws::rest(items, word),
     }
 }
 
-// The value of an expression. The array has a spare slot, which is read and not used where an item takes fewer than two
-// operands. What sticks or is too deep has no value, and its draws count all the same.
+// The value of an expression. The array has a spare slot, which is read and not used where an operation takes one operand.
 pub fn evaluate(items: &[u64], vars: [Slot; 16], word: u64) -> Evaluation
     ensures { λ r. ⌜ r ≡ evaluationOf vars word (now (items .entry)) ⌝ }
 {
     let mut stack = [Waiting {
-        value: Evaluated::NoValue,
+        kind: NONE,
+        number: 0,
     }; 17];
     let mut left = word;
     let mut depth: usize = 0;
     for at in 0..items.len() {
         let w = items[at];
+        if items::DRAW <= w {
+            if 16 <= depth {
+                return no_value(items, word);
+            }
+            let n = items::slot(w);
+            let s = vars[n];
+            let x = s.value;
+            let v = operand(w, x, left);
+            stack[depth] = v;
+            left = draws::left(left, w);
+            depth += 1;
+            continue;
+        }
         let takes = items::takes(w);
         if depth < takes {
-            return Evaluation {
-                value: Evaluated::NoValue,
-                rest: draws::rest(items, word),
-            };
+            return no_value(items, word);
         }
         let base = depth - takes;
         if 16 <= base {
-            return Evaluation {
-                value: Evaluated::NoValue,
-                rest: draws::rest(items, word),
-            };
+            return no_value(items, word);
         }
-        let first = stack[base];
-        let a = first.value;
-        let second = stack[base + 1];
-        let b = second.value;
-        let v = apply(vars, left, w, a, b);
-        stack[base] = Waiting { value: v };
-        left = draws::left(left, w);
+        let a = stack[base];
+        let b = stack[base + 1];
+        let v = operation(w, a, b);
+        stack[base] = v;
         depth = base + 1;
     }
     if depth != 1 {
-        return Evaluation {
-            value: Evaluated::NoValue,
-            rest: left,
-        };
+        return no_value(items, word);
     }
     let last = stack[0];
-    let v = last.value;
     Evaluation {
-        value: v,
+        value: held(last),
         rest: left,
     }
 }

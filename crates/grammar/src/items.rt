@@ -3,6 +3,8 @@ use crate::bits;
 use crate::values::Val;
 ghost use mathlib.Core.Path.{_≡_};
 ghost use Rattle.grammar.specs.Items.{unaryWord, binaryWord, constantWord, wordOf, takesOf, itemOf};
+ghost use Prim.Native.Nat.{_<_};
+ghost use Rattle.grammar.specs.Inner.{rowOf, slotOf};
 
 pub enum Unary {
     Not,
@@ -117,15 +119,34 @@ impl Item {
     }
 }
 
-const TAKES: [usize; 14] = [0, 1, 2, 2, 1, 2, 2, 2, 2, 2, 2, 2, 2, 0];
+// Row w of a table of the operations: two bits a row, from the lowest on. (An array would be laid out anew at each read.)
+pub(crate) fn row(table: u64, w: u64) -> u64
+    requires { ⌜ w < 14 ⌝ }
+    ensures { λ r. ⌜ r ≡ rowOf table w ⌝ }
+{
+    (table >> (2 * w)) % 4
+}
+
+// How many operands each takes: 0 1 2 2 1 2 2 2 2 2 2 2 2 0.
+const TAKES: u64 = 44738980;
 
 // How many operands the item of a word takes.
 pub(crate) fn takes(w: u64) -> usize
     ensures { λ r. ⌜ r ≡ takesOf (itemOf w) ⌝ }
 {
     if w < TRUTH {
-        let k = w as usize;
-        return TAKES[k];
+        return row(TAKES, w) as usize;
+    }
+    0
+}
+
+// The slot of the variable that a word names; the first where it names none.
+pub(crate) fn slot(w: u64) -> usize
+    ensures { λ r. ⌜ r ≡ slotOf w ⌝ }
+{
+    let n = w / 256;
+    if n < 16 {
+        return n as usize;
     }
     0
 }

@@ -9,7 +9,8 @@ ghost use lib.Dec.{eqb};
 ghost use lib.ListN.{length};
 ghost use Rattle.grammar.specs.Items.{itemOf, operandOf, takesOf, deepest};
 ghost use Rattle.grammar.specs.Run.{made, gives, runOf};
-ghost use Rattle.grammar.specs.Typing.{numberOf, kindedAt, kindedWord, variableKind, operandKind, kindStep, kindSteps, judged, typeOf};
+ghost use Rattle.grammar.specs.Typing.{numberOf, ill, kindedAt, variableKind, kindStep, kindSteps, judged, typeOf};
+ghost use Rattle.grammar.specs.Inner.{rowOf, kindedWord, operandKind};
 
 pub enum Typed {
     Known(Type),
@@ -45,9 +46,11 @@ const INTEGER: u8 = 1;
 const ILL: u8 = 2;
 
 // By the word of an operation: the kind that its operands have, but for =, and the kind of what it gives.
-const WANTS: [u8; 14] = [2, 0, 0, 0, 1, 1, 1, 1, 1, 1, 2, 1, 1, 2];
+// 2 0 0 0 1 1 1 1 1 1 2 1 1 2
+const WANTS: u64 = 157635842;
 
-const GIVES: [u8; 14] = [2, 0, 0, 0, 1, 1, 1, 1, 1, 1, 0, 0, 0, 0];
+// 2 0 0 0 1 1 1 1 1 1 0 0 0 0
+const GIVES: u64 = 349442;
 
 fn takes_one(k: u8, r: u8, a: u8) -> u8
     ensures { λ x. ⌜ x ≡ cond (eqb a k) r 2 ⌝ }
@@ -95,8 +98,8 @@ fn variable_kind(kinds: &[u64], n: u64) -> u8
     ILL
 }
 
-// The kind of a word that is no operation: a constant's or a variable's.
-fn operand_kind(kinds: &[u64], w: u64) -> u8
+// The kind of a constant's or a variable's word.
+fn constant_kind(kinds: &[u64], w: u64) -> u8
     ensures { λ r. ⌜ r ≡ kindedWord (operandKind (now (kinds .entry)) (operandOf (w % 256) (w / 256))) ⌝ }
 {
     let op = w % 256;
@@ -109,35 +112,41 @@ fn operand_kind(kinds: &[u64], w: u64) -> u8
     }
 }
 
+// The kind of the operand that a word adds.
+fn operand_kind(kinds: &[u64], w: u64) -> u8
+    requires { ⌜ 13 ≤ w ⌝ }
+    ensures { λ r. ⌜ r ≡ kindedWord (made (kindStep (now (kinds .entry)) (itemOf w)) ill ill) ⌝ }
+{
+    if w == items::DRAW {
+        return BOOLEAN;
+    }
+    constant_kind(kinds, w)
+}
+
+fn kind_row(table: u64, w: u64) -> u8
+    requires { ⌜ w < 14 ⌝ }
+    ensures { λ r. ⌜ r ≡ rowOf table w ⌝ }
+{
+    items::row(table, w) as u8
+}
+
 // The kind that an operation gives: a and b are the kinds of its operands, of which it takes so many.
 fn operation_kind(w: u64, takes: usize, a: u8, b: u8) -> u8
-    requires { ⌜ (w < 14) × (takes ≡ takesOf (itemOf w)) × (a ≤ 1) × (b ≤ 1) ⌝ }
+    requires { ⌜ (w < 13) × (takes ≡ takesOf (itemOf w)) × (a ≤ 1) × (b ≤ 1) ⌝ }
     ensures { λ r. ⌜ r ≡ kindedWord (made (kindStep [] (itemOf w)) (kindedAt a) (kindedAt b)) ⌝ }
 {
     if w == items::EQUAL {
         return of_one_kind(a, b);
     }
-    let i = w as usize;
-    let give = GIVES[i];
     if takes == 0 {
-        return give;
+        return ILL;
     }
-    let want = WANTS[i];
+    let give = kind_row(GIVES, w);
+    let want = kind_row(WANTS, w);
     if takes == 1 {
         return takes_one(want, give, a);
     }
     takes_two(want, give, a, b)
-}
-
-// The kind that a word gives.
-fn kind(kinds: &[u64], w: u64, takes: usize, a: u8, b: u8) -> u8
-    requires { ⌜ (takes ≡ takesOf (itemOf w)) × (a ≤ 1) × (b ≤ 1) ⌝ }
-    ensures { λ r. ⌜ r ≡ kindedWord (made (kindStep (now (kinds .entry)) (itemOf w)) (kindedAt a) (kindedAt b)) ⌝ }
-{
-    if items::DRAW < w {
-        return operand_kind(kinds, w);
-    }
-    operation_kind(w, takes, a, b)
 }
 
 fn larger(a: usize, b: usize) -> usize
@@ -163,7 +172,8 @@ fn judge(most: usize, k: u8) -> Typed
     Typed::Known(Type::Boolean)
 }
 
-// The array has a spare slot, which is read and not used where an item takes fewer than two operands.
+// The array has a spare slot, which is read and not used where an operation takes one operand. Only operands can make
+// more wait than before.
 fn kind_of(items: &[u64], kinds: &[u64]) -> Typed
     requires { ⌜ length (now items) ≤ 64 ⌝ }
     ensures { λ r. ⌜ r ≡ judged (runOf (kindSteps (now (kinds .entry)) (now (items .entry))) []) (deepest (now (items .entry)) 0) ⌝ }
@@ -173,6 +183,16 @@ fn kind_of(items: &[u64], kinds: &[u64]) -> Typed
     let mut most: usize = 0;
     for at in 0..items.len() {
         let w = items[at];
+        if items::DRAW <= w {
+            let k = operand_kind(kinds, w);
+            if INTEGER < k {
+                return Typed::IllTyped;
+            }
+            stack[depth] = k;
+            depth += 1;
+            most = larger(most, depth);
+            continue;
+        }
         let takes = items::takes(w);
         if depth < takes {
             return Typed::IllTyped;
@@ -180,13 +200,12 @@ fn kind_of(items: &[u64], kinds: &[u64]) -> Typed
         let base = depth - takes;
         let a = stack[base];
         let b = stack[base + 1];
-        let k = kind(kinds, w, takes, a, b);
+        let k = operation_kind(w, takes, a, b);
         if INTEGER < k {
             return Typed::IllTyped;
         }
         stack[base] = k;
         depth = base + 1;
-        most = larger(most, depth);
     }
     if depth != 1 {
         return Typed::IllTyped;

@@ -1,28 +1,47 @@
-use Rattle.grammar.proofs.OperationLaws.{none-left, none-right, both-known}
+use Rattle.grammar.proofs.HeldLaws.{kinds-differ, both-booleans, both-integers, both-none}
+use mir.Syntax.{w32}
+use mir.Val.{SFits, toZ, ofZ}
 use Prim.Native.Nat.{_-_}
-use mathlib.Core.Path.{_∙_}
+use mathlib.Core.Path.{_≡_, _∙_}
 use borrow.Author.Needs.{needs}
 use Rattle.grammar.proofs.evaluation.binary.Statement.{statement}
 use Rattle.grammar.proofs.evaluation.binary.Tie as tie
 
 returns : tie.Need-returns
-returns c = rw (c .enum-told .given .1) (none-left _ _)
+returns c = c .none .ensures ∙ kinds-differ _ _ _ _ _ (c .before .if1 .taken)
 
 returns-2 : tie.Need-returns-2
-returns-2 c = rw (c .before .before .before .a .given .1, c .enum-told2 .given .1) (none-right _ _)
+returns-2 c =
+    let s = c .before .before .before .before .before .before in
+    let a = s .args .a .number in
+    let b = s .args .b .number in
+    let fa : SFits w32 a = search needs in
+    let fb : SFits w32 b = search needs in
+    rw (c .before .before .before .before .if1 .left, c .before .match .keys1) (c .booleans .ensures ∙ both-booleans _ a b fa fb)
 
 returns-3 : tie.Need-returns-3
-returns-3 c = rw (c .before .before .before .before .before .a .given .1, c .before .before .b .given .1) (c .values .ensures ∙ both-known _ _ _)
+returns-3 c =
+    let s = c .before .before .before .before .before .before in
+    let a = s .args .a .number in
+    let b = s .args .b .number in
+    let ea : toZ w32 (ofZ w32 a) ≡ a = search needs in
+    let eb : toZ w32 (ofZ w32 b) ≡ b = search needs in
+    rw (c .before .before .before .before .if1 .left, c .before .match .keys2) ((rw (ea, eb) at (c .integers .ensures)) ∙ both-integers _ a b)
+
+returns-4 : tie.Need-returns-4
+returns-4 c =
+    let s = c .before .before .before .before .before .before in
+    rw (c .before .before .before .before .if1 .left) (c .none2 .ensures ∙ both-none _ _ (s .args .a .number) (s .args .b .number) (c .before .match .rest))
 
 pub binary-spec : {M : Type 1} → statement M
 binary-spec =
     tie.close
     (tie.spec
-    (λ c. search needs)
-    (λ c. search needs)
-    returns
-    (λ c. search needs)
-    (λ c. search needs)
-    returns-2
     (λ c κs. search needs)
-    returns-3)
+    returns
+    (λ c κs. search needs)
+    (λ c κs. search needs)
+    (λ c κs. search needs)
+    returns-2
+    returns-3
+    returns-4)

@@ -1,9 +1,10 @@
-use Rattle.grammar.proofs.OperationLaws.{no-integers}
 use Rattle.grammar.specs.Items.{itemOf}
 use lib.IntN.{_+ℤ_, _-ℤ_, _*ℤ_}
 use lib.Signed.{ltZ, leZ, quotZ, remZ}
 use Rattle.grammar.specs.Arith.{fitted}
-use Rattle.grammar.specs.Evaluation.{boolean, valuesOn}
+use Rattle.grammar.specs.Evaluation.{boolean}
+use Rattle.grammar.specs.Inner.{valuesOn}
+use Rattle.grammar.proofs.OperationLaws.{no-integers}
 use Rattle.grammar.proofs.Signed.{cast-fits, op-fits, op-is, op-wide, sum-fits, difference-fits, product-fits, quotient-fits, remainder-fits, zero-yes, zero-no, divisor, same}
 use Prim.Native.Nat.{_+_, _-_, _*_}
 use mathlib.Core.Path.{ap, _∙_}
@@ -46,7 +47,7 @@ returns-3 c = rw (c .before .match .keys3) (c .in-range3 .ensures ∙ ap fitted 
 
 returns-4 : tie.Need-returns-4
 unfolding itemOf valuesOn
-returns-4 c = rw (c .before .match .keys4) (rw (zero-yes (c .before .before .fits .b) (c .if1 .taken)))
+returns-4 c = rw (c .before .before .match .keys4) (rw (zero-yes (c .before .before .before .fits .b) (c .before .if1 .taken)) (c .none .ensures))
 
 returns-5 : tie.Need-returns-5
 unfolding itemOf valuesOn
@@ -57,7 +58,7 @@ returns-5 c =
 
 returns-6 : tie.Need-returns-6
 unfolding itemOf valuesOn
-returns-6 c = rw (c .before .match .keys5) (rw (zero-yes (c .before .before .fits .b) (c .if2 .taken)))
+returns-6 c = rw (c .before .before .match .keys5) (rw (zero-yes (c .before .before .before .fits .b) (c .before .if2 .taken)) (c .none2 .ensures))
 
 returns-7 : tie.Need-returns-7
 unfolding itemOf valuesOn
@@ -68,18 +69,18 @@ returns-7 c =
 
 returns-8 : tie.Need-returns-8
 unfolding itemOf valuesOn
-returns-8 c = rw (c .match .keys6) (ap boolean (same (c .before .fits .a) (c .before .fits .b)))
+returns-8 c = rw (c .before .match .keys6) (c .boolean .ensures ∙ ap boolean (same (c .before .before .fits .a) (c .before .before .fits .b)))
 
 returns-9 : tie.Need-returns-9
 unfolding itemOf valuesOn
-returns-9 c = rw (c .match .keys7) (ap boolean (op-wide ltZ (c .before .fits .a) (c .before .fits .b)))
+returns-9 c = rw (c .before .match .keys7) (c .boolean2 .ensures ∙ ap boolean (op-wide ltZ (c .before .before .fits .a) (c .before .before .fits .b)))
 
 returns-10 : tie.Need-returns-10
 unfolding itemOf valuesOn
-returns-10 c = rw (c .match .keys8) (ap boolean (op-wide leZ (c .before .fits .a) (c .before .fits .b)))
+returns-10 c = rw (c .before .match .keys8) (c .boolean3 .ensures ∙ ap boolean (op-wide leZ (c .before .before .fits .a) (c .before .before .fits .b)))
 
 returns-11 : tie.Need-returns-11
-returns-11 c = no-integers _ _ (c .before .args .w) (c .match .rest)
+returns-11 c = c .none3 .ensures ∙ no-integers _ _ (c .before .before .args .w) (c .before .match .rest)
 
 pub integers-spec : {M : Type 1} → statement M
 integers-spec =
@@ -93,9 +94,15 @@ integers-spec =
     (λ c κs. search needs)
     mul-in-range
     (λ c κs. search needs)
+    (λ c κs. search needs)
     div-in-range
     (λ c κs. search needs)
+    (λ c κs. search needs)
     rem-in-range
+    (λ c κs. search needs)
+    (λ c κs. search needs)
+    (λ c κs. search needs)
+    (λ c κs. search needs)
     (λ c κs. search needs)
     returns
     returns-2

@@ -1,13 +1,14 @@
 use borrow.Author.Tests.{lt-ltb, le-ltb}
 use Prim.Native.Nat.{_-_}
+use borrow.Author.Needs.{needs}
 use Rattle.grammar.proofs.evaluation.truth.Statement.{statement}
 use Rattle.grammar.proofs.evaluation.truth.Tie as tie
 
 returns : tie.Need-returns
-returns c = simp (lt-ltb _ _ (c .if1 .taken))
+returns c = rw (lt-ltb _ _ (c .before .if1 .taken)) (c .boolean .ensures)
 
 returns-2 : tie.Need-returns-2
-returns-2 c = simp (le-ltb _ _ (c .if1 .left))
+returns-2 c = rw (le-ltb _ _ (c .before .if1 .left)) (c .none .ensures)
 
 pub truth-spec : {M : Type 1} → statement M
-truth-spec = tie.close (tie.spec returns returns-2)
+truth-spec = tie.close (tie.spec (λ c κs. search needs) returns (λ c κs. search needs) returns-2)

@@ -5,10 +5,10 @@ use Rattle.grammar.proofs.evaluation.variable.Statement.{statement}
 use Rattle.grammar.proofs.evaluation.variable.Tie as tie
 
 returns : tie.Need-returns
-returns c = simp (lt-ltb _ _ (c .before .if1 .taken))
+returns c = rw (lt-ltb _ _ (c .before .if1 .taken)) (c .of-value .ensures)
 
 returns-2 : tie.Need-returns-2
-returns-2 c = simp (le-ltb _ _ (c .if1 .left))
+returns-2 c = rw (le-ltb _ _ (c .before .if1 .left)) (c .none .ensures)
 
 pub variable-spec : {M : Type 1} → statement M
-variable-spec = tie.close (tie.spec (λ c. search needs) (λ c. search needs) returns returns-2)
+variable-spec = tie.close (tie.spec (λ c κs. search needs) returns (λ c κs. search needs) returns-2)

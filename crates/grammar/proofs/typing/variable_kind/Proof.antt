@@ -1,6 +1,7 @@
 use lib.ListN.{List·getD-eq-default}
 use Rattle.grammar.proofs.KindLaws.{kinded-ill, getD-any}
-use Rattle.grammar.specs.Typing.{kindedAt, kindedWord}
+use Rattle.grammar.specs.Typing.{kindedAt}
+use Rattle.grammar.specs.Inner.{kindedWord}
 use Prim.Native.Nat.{ℕ, _-_}
 use mathlib.Core.Path.{sym, ap, _∙_}
 use borrow.Author.Needs.{needs}
