@@ -47,3 +47,7 @@ from-high b h = rw (le-ltb b 2147483648 h)
 pub from-bits-of : (z : ℤ) → SFits w32 z → fromBits (bitsOf z) ≡ z
 from-bits-of (pos n) f = from-low n (f .sfits)
 from-bits-of (negsuc n) f = from-high (4294967295 - n) (omega (arith, f .sfits)) ∙ ap negsuc (omega (arith, f .sfits))
+
+pub bits-small : (z : ℤ) → SFits w32 z → bitsOf z < 4294967296
+bits-small (pos n) f = omega (arith, f .sfits)
+bits-small (negsuc n) f = omega (arith, f .sfits)

@@ -7,3 +7,4 @@ pub mod Typing
 pub mod Arith
 pub mod Evaluation
 pub mod Inner
+pub mod Marked
