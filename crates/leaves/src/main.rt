@@ -1,0 +1,8 @@
+// Answers lines on ranges, expressions and values. Each answer is what the library's call answered.
+mod answers;
+mod lines;
+
+fn main() {
+    let mut line = io::buffer();
+    lines::answer_all(&mut line);
+}

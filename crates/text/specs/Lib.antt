@@ -1,0 +1,6 @@
+pub mod Tokens
+pub mod Numbers
+pub mod Bounds
+pub mod Values
+pub mod Items
+pub mod Writing
