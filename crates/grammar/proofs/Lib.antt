@@ -9,3 +9,5 @@ pub mod StepLaws
 pub mod IllLaws
 pub mod HeldLaws
 pub mod EvaluationLaws
+pub mod WholeLaws
+pub mod TurnLaws
