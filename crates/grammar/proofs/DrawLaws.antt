@@ -1,7 +1,8 @@
 -- Laws of draws, for loops over the words.
 use Prim.Native.Nat.{ℕ, _+_, _/_, _^_, _<_, _≤_}
 use mathlib.Core.Path.{_≡_, sym, ap, _∙_}
-use mathlib.Core.List.{List}
+use mathlib.Core.List.{List, [], _∷_}
+use lib.Dec.{lit≤}
 use native.Mathlib.Nat.{div-div-eq-div-mul, div-one}
 use lib.Pow.{pow-add}
 use lib.ListN.{length, getD, drop}
@@ -9,7 +10,7 @@ use native.Mathlib.Omega.{arith}
 use Rattle.laws.proofs.Lists.{next, done}
 use Rattle.grammar.specs.Items.{itemOf}
 use Rattle.grammar.specs.Draws.{drawsIn, drawsOf}
-use Rattle.grammar.proofs.ItemLaws.{no-draw}
+use Rattle.grammar.proofs.ItemLaws.{draws-most}
 
 module _ (ws : List ℕ) (at : ℕ) where
   pub draws-next : at < length ws → drawsOf (drop at ws) ≡ drawsIn (itemOf (getD ws at 0)) + drawsOf (drop (at + 1) ws)
@@ -30,6 +31,8 @@ module _ (ws : List ℕ) (at : ℕ) where
   pub left-done : (left : ℕ) → length ws ≤ at → left / 2 ^ drawsOf (drop at ws) ≡ left
   left-done left h = ap (λ (n : ℕ). left / 2 ^ n) (draws-done h) ∙ div-one left
 
-  -- an operation draws nothing
-  pub draws-operation : at < length ws → getD ws at 0 < 13 → drawsOf (drop at ws) ≡ drawsOf (drop (at + 1) ws)
-  draws-operation h l = omega (arith, draws-next h, no-draw (getD ws at 0) (λ e. omega arith))
+-- no more draws than items
+pub draws-few : (ws : List ℕ) → drawsOf ws ≤ length ws
+unfolding drawsOf
+draws-few [] = lit≤ tt
+draws-few (w ∷ ws) = omega (arith, draws-most (itemOf w), draws-few ws)

@@ -1,87 +1,83 @@
--- Laws of operands that wait, by the number of their kind.
-use Prim.Native.Nat.{ℕ, zero, suc, _-_, _^_}
-use mathlib.Core.Path.{_≡_, refl, ap, _∙_}
-use mathlib.Core.Bool.{Bool, true, false, not}
+-- Laws of operands that wait.
+use Prim.Native.Nat.{ℕ, _≤_, _<_}
+use mathlib.Core.Path.{_≡_, refl, sym, ap, _∙_}
+use native.Mathlib.Decide.{decLt, ℕ-discrete}
 use native.Mathlib.Omega.{arith}
-use borrow.Author.Tests.{ne-eqb}
+use borrow.Author.Tests.{lt-ltb, le-ltb, ne-eqb}
 use lib.Dec.{eqb}
-use lib.IntN.{ℤ, pos, negsuc}
-use mir.Syntax.{w32}
-use mir.Val.{SFits, toZ, ofZ, boolByte}
 use Rattle.grammar.specs.Items.{Read}
-use Rattle.grammar.specs.Arith.{isZero}
 use Rattle.grammar.specs.Evaluation.{strict1, notOf, negateOf}
-use Rattle.grammar.specs.Inner.{heldAs, valuesOn, binaryOn}
+use Rattle.grammar.specs.Inner.{wholeOf, heldOf, valuesOn, binaryOn}
 use Rattle.grammar.specs.declared.values.Val.the-variants.{Boolean, Integer}
 use Rattle.grammar.specs.declared.evaluation.Evaluated.{Evaluated}
 use Rattle.grammar.specs.declared.evaluation.Evaluated.the-variants.{Known, NoValue}
 use Rattle.grammar.proofs.OperationLaws.{integer-boolean, boolean-integer, none-left, none-right, both-known}
 
-pub held-boolean : (b : Bool) → heldAs 1 (toZ w32 (boolByte b)) ≡ Known (Boolean b)
-unfolding heldAs
-held-boolean true = refl
-held-boolean false = refl
+pub nothing : heldOf 8589934592 ≡ NoValue
+unfolding heldOf
+nothing = refl
 
-pub held-integer : (n : ℤ) → heldAs 2 n ≡ Known (Integer n)
-unfolding heldAs
-held-integer n = refl
+module _ (x : ℕ) where
+  pub held-integer : x < 4294967296 → heldOf x ≡ Known (Integer (wholeOf x))
+  unfolding heldOf
+  held-integer h = rw (lt-ltb x 4294967296 h)
 
--- the code's test against 0 looks at the bits
-pub zero-bits : (z : ℤ) → SFits w32 z → eqb (ofZ w32 z) 0 ≡ isZero z
-zero-bits (pos n) f = refl
-zero-bits (negsuc n) f = ne-eqb (2 ^ 32 - suc n) 0 (λ e. omega (arith, f .sfits))
+  held-boolean : 4294967296 ≤ x → x ≤ 4294967297 → heldOf x ≡ Known (Boolean (eqb x 4294967297))
+  unfolding heldOf
+  held-boolean h k = by (ℕ-discrete x 4294967296)
+    where
+      by : Dec (x ≡ 4294967296) → heldOf x ≡ Known (Boolean (eqb x 4294967297))
+      by (yes e) = rw e
+      by (no n) =
+          let e : x ≡ 4294967297 = omega arith in
+          rw e
 
-pub held-truth : (n : ℤ) → SFits w32 n → Known (Boolean (not (eqb (ofZ w32 n) 0))) ≡ heldAs 1 n
-unfolding heldAs
-held-truth n f = ap (λ (t : Bool). Known (Boolean (not t))) (zero-bits n f)
+  pub held-none : 4294967297 < x → heldOf x ≡ NoValue
+  unfolding heldOf
+  held-none h = rw (le-ltb x 4294967296 (omega arith), ne-eqb x 4294967296 (λ e. omega arith), ne-eqb x 4294967297 (λ e. omega arith))
 
--- of another kind than the two
-pub held-none : (k : ℕ) (n : ℤ) → ((Unit {0} × (k ≡ 1 → ⊥)) × (k ≡ 2 → ⊥)) → NoValue ≡ heldAs k n
-unfolding heldAs
-held-none zero n h = refl
-held-none (suc zero) n h = absurd (h .0 .1 refl)
-held-none (suc (suc zero)) n h = absurd (h .1 refl)
-held-none (suc (suc (suc k))) n h = refl
+  -- what is no integer, and what is no boolean
+  pub no-integer : 4294967296 ≤ x → NoValue ≡ strict1 negateOf (heldOf x)
+  no-integer h = by (decLt 4294967297 x)
+    where
+      by : Dec (4294967297 < x) → NoValue ≡ strict1 negateOf (heldOf x)
+      by (yes k) = ap (strict1 negateOf) (sym (held-none k))
+      by (no k) = ap (strict1 negateOf) (sym (held-boolean h (omega arith)))
 
-pub not-other : (k : ℕ) (n : ℤ) → (Unit {0} × (k ≡ 1 → ⊥)) → NoValue ≡ strict1 notOf (heldAs k n)
-unfolding heldAs
-not-other zero n h = refl
-not-other (suc zero) n h = absurd (h .1 refl)
-not-other (suc (suc zero)) n h = refl
-not-other (suc (suc (suc k))) n h = refl
+  pub no-boolean : ((Unit {0} × (x ≡ 4294967296 → ⊥)) × (x ≡ 4294967297 → ⊥)) → NoValue ≡ strict1 notOf (heldOf x)
+  no-boolean n = by (decLt x 4294967296)
+    where
+      by : Dec (x < 4294967296) → NoValue ≡ strict1 notOf (heldOf x)
+      by (yes k) = ap (strict1 notOf) (sym (held-integer k))
+      by (no k) = ap (strict1 notOf) (sym (held-none (omega (arith, n .0 .1, n .1))))
 
-pub negate-other : (k : ℕ) (n : ℤ) → (Unit {0} × (k ≡ 2 → ⊥)) → NoValue ≡ strict1 negateOf (heldAs k n)
-unfolding heldAs
-negate-other zero n h = refl
-negate-other (suc zero) n h = refl
-negate-other (suc (suc zero)) n h = absurd (h .1 refl)
-negate-other (suc (suc (suc k))) n h = refl
+-- a binary operation takes two integers or two booleans
+module _ (r : Read) (x y : ℕ) where
+  on : {v e f : Evaluated} → v ≡ binaryOn r e f → heldOf x ≡ e → heldOf y ≡ f → v ≡ binaryOn r (heldOf x) (heldOf y)
+  on k p q = k ∙ rw (p, q)
 
--- no operation takes operands of two kinds
-pub kinds-differ : (r : Read) (j k : ℕ) (m n : ℤ) → (k ≡ j → ⊥) → NoValue ≡ binaryOn r (heldAs j m) (heldAs k n)
-unfolding heldAs
-kinds-differ r zero k m n h = none-left r (heldAs k n)
-kinds-differ r (suc zero) zero m n h = none-right r _
-kinds-differ r (suc zero) (suc zero) m n h = absurd (h refl)
-kinds-differ r (suc zero) (suc (suc zero)) m n h = boolean-integer r _ n ∙ both-known r _ _
-kinds-differ r (suc zero) (suc (suc (suc k))) m n h = none-right r _
-kinds-differ r (suc (suc zero)) zero m n h = none-right r _
-kinds-differ r (suc (suc zero)) (suc zero) m n h = integer-boolean r m _ ∙ both-known r _ _
-kinds-differ r (suc (suc zero)) (suc (suc zero)) m n h = absurd (h refl)
-kinds-differ r (suc (suc zero)) (suc (suc (suc k))) m n h = none-right r _
-kinds-differ r (suc (suc (suc j))) k m n h = none-left r (heldAs k n)
+  pub both-integers : x < 4294967296 → y < 4294967296 → valuesOn r (Integer (wholeOf x)) (Integer (wholeOf y)) ≡ binaryOn r (heldOf x) (heldOf y)
+  both-integers h k = on (both-known r _ _) (held-integer x h) (held-integer y k)
 
--- and of one kind it takes two booleans or two integers
-pub both-booleans : (r : Read) (m n : ℤ) → SFits w32 m → SFits w32 n → valuesOn r (Boolean (not (eqb (ofZ w32 m) 0))) (Boolean (not (eqb (ofZ w32 n) 0))) ≡ binaryOn r (heldAs 1 m) (heldAs 1 n)
-unfolding heldAs
-both-booleans r m n f g =
-    both-known r _ _
-    ∙ ap (λ (t : Bool). binaryOn r (Known (Boolean (not t))) (Known (Boolean (not (eqb (ofZ w32 n) 0))))) (zero-bits m f)
-    ∙ ap (λ (t : Bool). binaryOn r (Known (Boolean (not (isZero m)))) (Known (Boolean (not t)))) (zero-bits n g)
+  pub both-booleans : 4294967296 ≤ x → x ≤ 4294967297 → 4294967296 ≤ y → y ≤ 4294967297 → valuesOn r (Boolean (eqb x 4294967297)) (Boolean (eqb y 4294967297)) ≡ binaryOn r (heldOf x) (heldOf y)
+  both-booleans h k l m = on (both-known r _ _) (held-boolean x h k) (held-boolean y l m)
 
-pub both-integers : (r : Read) (m n : ℤ) → valuesOn r (Integer m) (Integer n) ≡ binaryOn r (heldAs 2 m) (heldAs 2 n)
-unfolding heldAs
-both-integers r m n = both-known r (Integer m) (Integer n)
+  pub none-first : 4294967297 < x → NoValue ≡ binaryOn r (heldOf x) (heldOf y)
+  none-first h = on (none-left r (heldOf y)) (held-none x h) refl
 
-pub both-none : (r : Read) (k : ℕ) (m n : ℤ) → ((Unit {0} × (k ≡ 1 → ⊥)) × (k ≡ 2 → ⊥)) → NoValue ≡ binaryOn r (heldAs k m) (heldAs k n)
-both-none r k m n h = none-left r (heldAs k n) ∙ ap (λ (e : Evaluated). binaryOn r e (heldAs k n)) (held-none k m h)
+  pub none-second : 4294967296 ≤ x → x ≤ 4294967297 → 4294967297 < y → NoValue ≡ binaryOn r (heldOf x) (heldOf y)
+  none-second h k l = on (none-right r _) (held-boolean x h k) (held-none y l)
+
+  pub integer-first : x < 4294967296 → 4294967296 ≤ y → NoValue ≡ binaryOn r (heldOf x) (heldOf y)
+  integer-first h k = by (decLt 4294967297 y)
+    where
+      by : Dec (4294967297 < y) → NoValue ≡ binaryOn r (heldOf x) (heldOf y)
+      by (yes l) = on (none-right r _) (held-integer x h) (held-none y l)
+      by (no l) = on (integer-boolean r (wholeOf x) _ ∙ both-known r _ _) (held-integer x h) (held-boolean y k (omega arith))
+
+  pub integer-second : 4294967296 ≤ x → y < 4294967296 → NoValue ≡ binaryOn r (heldOf x) (heldOf y)
+  integer-second h k = by (decLt 4294967297 x)
+    where
+      by : Dec (4294967297 < x) → NoValue ≡ binaryOn r (heldOf x) (heldOf y)
+      by (yes l) = none-first l
+      by (no l) = on (boolean-integer r _ (wholeOf y) ∙ both-known r _ _) (held-boolean x h (omega arith)) (held-integer y k)

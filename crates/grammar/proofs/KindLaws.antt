@@ -19,19 +19,6 @@ use Rattle.grammar.specs.declared.values.«Type».the-variants.{Boolean,
 use Rattle.grammar.specs.declared.typing.Typed.the-variants.{Known, TableFull}
 use Rattle.grammar.proofs.ItemLaws.{high, operand-any, low-any}
 
--- the number of a kind
-pub data IsKind : ℕ → Type 0 where
-  the : (k : Kind) → IsKind (kindWord k)
-
-pub is-kind : (n : ℕ) → n ≤ 1 → IsKind n
-is-kind zero h = the Boolean
-is-kind (suc zero) h = the Integer
-is-kind (suc (suc n)) h = absurd (omega arith)
-
-pub kinded-word : (k : Kind) → kindedAt (kindWord k) ≡ of k
-kinded-word Boolean = refl
-kinded-word Integer = refl
-
 pub kinded-ill : (n : ℕ) → (n ≡ 0 → ⊥) → (n ≡ 1 → ⊥) → kindedAt n ≡ ill
 kinded-ill zero a b = absurd (a refl)
 kinded-ill (suc zero) a b = absurd (b refl)

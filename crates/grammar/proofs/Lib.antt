@@ -1,13 +1,15 @@
 pub mod ItemLaws
 pub mod BitLaws
 pub mod Signed
+pub mod WholeLaws
 pub mod OperationLaws
+pub mod HeldLaws
 pub mod KindLaws
+pub mod IllLaws
 pub mod DrawLaws
 pub mod Stack
 pub mod StepLaws
-pub mod IllLaws
-pub mod HeldLaws
 pub mod EvaluationLaws
+pub mod TurnLaws
 pub mod Sound
 pub mod Theorems

@@ -1,17 +1,17 @@
 -- Signed 32-bit numbers computed with at 64 bits. A signed local holds bits, so a value that goes through one is read back as
 -- `toZ w (ofZ w z)`: `wide` is an i32 that was cast to i64.
 use mathlib.Core.Path.{_≡_, refl, sym, ap, _∙_, subst}
-use mathlib.Core.Bool.{Bool, true, false, cond}
-use Prim.Native.Nat.{ℕ, zero, suc, _+_, _-_, _*_, _/_, _≤_, _<_, _^_}
+use mathlib.Core.Bool.{true, false}
+use Prim.Native.Nat.{ℕ, zero, suc, _-_, _*_, _/_, _≤_, _<_, _^_}
 use native.Mathlib.Nat.{mul-le-mul, div-le-self, lt-of-le-of-lt, le-trans}
 use native.Mathlib.Omega.{arith}
-use native.Mathlib.Decide.{ℕ-discrete}
-use lib.Dec.{ltb, eqb, lit<, lit≤}
-use lib.IntN.{ℤ, pos, negsuc, negℤ, natAbs, _+ℤ_, _-ℤ_, _*ℤ_}
+use lib.Dec.{eqb, lit<}
+use lib.IntN.{ℤ, pos, negsuc, negℤ, natAbs, _*ℤ_}
 use lib.Signed.{mag, ltZ, quotZ, remZ, mag-rem, natAbs-le}
 use borrow.Author.Tests.{ltb-false, eq-eqb, ne-eqb}
-use mir.Syntax.{Width, w32, w64}
-use mir.Val.{SFits, toZ, ofZ, bits as bitsW}
+use Rattle.laws.proofs.Tests.{eqb-same}
+use mir.Syntax.{w32, w64}
+use mir.Val.{SFits, toZ, ofZ}
 use mir.Facts.{toZ-ofZ, sfits-widen}
 use Rattle.grammar.specs.Arith.{least, most, isZero}
 use Rattle.grammar.specs.Values.{eqZ}
@@ -38,23 +38,9 @@ pub op-is : (f : ℤ → ℤ → ℤ) {a b : ℤ} → SFits w32 a → SFits w32 
 op-is f fa fb h = toZ-ofZ (op-fits f fa fb h) ∙ op-wide f fa fb
 
 -- ---- how large a result can be
-mag-cond : (t : Bool) (x y : ℤ) {n : ℕ} → mag x < n → mag y < n → mag (cond t x y) < n
-mag-cond true x y p q = p
-mag-cond false x y p q = q
-
 mag-neg : (n : ℕ) → mag (negℤ (pos n)) ≤ n
 mag-neg zero = omega arith
 mag-neg (suc n) = omega arith
-
-sum : (a b : ℤ) → mag a < 2 ^ 32 → mag b < 2 ^ 32 → mag (a +ℤ b) < 2 ^ 63
-sum (pos a) (pos b) p q = omega arith
-sum (pos a) (negsuc b) p q = mag-cond (ltb a (suc b)) (negsuc (suc b - suc a)) (pos (a - suc b)) (omega arith) (omega arith)
-sum (negsuc a) (pos b) p q = mag-cond (ltb b (suc a)) (negsuc (suc a - suc b)) (pos (b - suc a)) (omega arith) (omega arith)
-sum (negsuc a) (negsuc b) p q = omega arith
-
-neg : (a : ℤ) → mag a < 2 ^ 31 → mag (negℤ a) < 2 ^ 32
-neg (pos n) p = omega (arith, mag-neg n)
-neg (negsuc n) p = omega arith
 
 product : (a b : ℤ) → mag (a *ℤ b) ≤ natAbs a * natAbs b
 product (pos a) (pos b) = omega arith
@@ -69,12 +55,6 @@ quotient (negsuc a) (pos b) = le-trans (mag-neg (suc a / b)) (div-le-self (suc a
 quotient (negsuc a) (negsuc b) = div-le-self (suc a) (suc b)
 
 module _ {a b : ℤ} (fa : SFits w32 a) (fb : SFits w32 b) where
-  pub sum-fits : SFits w64 (a +ℤ b)
-  sum-fits = record { sfits = sum a b (omega (arith, fa .sfits)) (omega (arith, fb .sfits)) }
-
-  pub difference-fits : SFits w64 (a -ℤ b)
-  difference-fits = record { sfits = sum a (negℤ b) (omega (arith, fa .sfits)) (neg b (fb .sfits)) }
-
   pub product-fits : SFits w64 (a *ℤ b)
   product-fits =
       record { sfits = lt-of-le-of-lt (product a b) (lt-of-le-of-lt (mul-le-mul (natAbs-le a (fa .sfits)) (natAbs-le b (fb .sfits))) (lit< tt)) }
@@ -115,20 +95,9 @@ pub divisor : (n : ℕ) → (n ≡ 0 → ⊥) → 0 < n
 divisor n h = omega arith
 
 -- ---- equality, which compares the bits
-eqb-iff : (x y a b : ℕ) → (x ≡ y → a ≡ b) → (a ≡ b → x ≡ y) → eqb x y ≡ eqb a b
-eqb-iff x y a b f g = by (ℕ-discrete x y)
-  where
-    by : Dec (x ≡ y) → eqb x y ≡ eqb a b
-    by (yes e) = eq-eqb x y e ∙ sym (eq-eqb a b (f e))
-    by (no h) = ne-eqb x y h ∙ sym (ne-eqb a b (λ e. h (g e)))
-
--- at any width that has room for 32 bits
-pub same-at : (w : Width) → 2 ^ 32 ≤ 2 ^ bitsW w → (a b : ℤ) → SFits w32 a → SFits w32 b → eqb (ofZ w a) (ofZ w b) ≡ eqZ a b
-same-at w room (pos a) (pos b) f g = refl
-same-at w room (pos a) (negsuc b) f g = ne-eqb a (2 ^ bitsW w - suc b) (λ e. omega (arith, f .sfits, g .sfits))
-same-at w room (negsuc a) (pos b) f g = ne-eqb (2 ^ bitsW w - suc a) b (λ e. omega (arith, f .sfits, g .sfits))
-same-at w room (negsuc a) (negsuc b) f g =
-    eqb-iff (2 ^ bitsW w - suc a) (2 ^ bitsW w - suc b) a b (λ e. omega (arith, f .sfits, g .sfits)) (λ e. ap (λ (n : ℕ). 2 ^ bitsW w - suc n) e)
-
-pub same : {a b : ℤ} → SFits w32 a → SFits w32 b → eqb (bits a) (bits b) ≡ eqZ a b
-same {a} {b} f g = ap (λ (n : ℕ). eqb n (bits b)) (bits-is f) ∙ ap (λ (n : ℕ). eqb (ofZ w64 a) n) (bits-is g) ∙ same-at w64 (lit≤ tt) a b f g
+pub same-bits : (a b : ℤ) → SFits w32 a → SFits w32 b → eqb (ofZ w32 a) (ofZ w32 b) ≡ eqZ a b
+same-bits (pos a) (pos b) f g = refl
+same-bits (pos a) (negsuc b) f g = ne-eqb a (2 ^ 32 - suc b) (λ e. omega (arith, f .sfits, g .sfits))
+same-bits (negsuc a) (pos b) f g = ne-eqb (2 ^ 32 - suc a) b (λ e. omega (arith, f .sfits, g .sfits))
+same-bits (negsuc a) (negsuc b) f g =
+    eqb-same (2 ^ 32 - suc a) (2 ^ 32 - suc b) a b (λ e. omega (arith, f .sfits, g .sfits)) (λ e. ap (λ (n : ℕ). 2 ^ 32 - suc n) e)

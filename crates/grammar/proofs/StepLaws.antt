@@ -3,7 +3,7 @@ use Prim.Native.Nat.{ℕ, _+_, _-_, _/_, _^_, _<_, _≤_, max}
 use native.Mathlib.Omega.{arith}
 use mathlib.Core.Path.{_≡_, refl, ap, _∙_}
 use mathlib.Core.List.{List, [], _∷_}
-use native.Mathlib.Nat.{le-refl, le-max-left, div-one}
+use native.Mathlib.Nat.{le-refl, le-max-left}
 use lib.ListN.{length, getD, drop}
 use Rattle.laws.proofs.Lists.{next, done}
 use Rattle.grammar.specs.Items.{Read, item, none, itemOf, takesOf, deepest}
@@ -12,7 +12,7 @@ use Rattle.grammar.specs.Typing.{kindStep, kindSteps}
 use Rattle.grammar.specs.Evaluation.{valueStep, valueSteps}
 use Rattle.grammar.specs.declared.items.Item.the-variants as Item
 use Rattle.grammar.specs.declared.values.Slot.{Slot}
-use Rattle.grammar.proofs.ItemLaws.{takes-operand, no-draw}
+use Rattle.grammar.proofs.ItemLaws.{takes-operand}
 use Rattle.grammar.proofs.Stack.{sizeOf}
 
 -- a step takes what its item takes
@@ -65,9 +65,3 @@ module _ (ws : List ℕ) (at : ℕ) where
 
   pub deepest-push : (n : ℕ) → at < length ws → 13 ≤ getD ws at 0 → deepest (drop at ws) n ≡ max n (deepest (drop (at + 1) ws) (n + 1))
   deepest-push n h l = deepest-next n h ∙ ap (λ (k : ℕ). max n (deepest (drop (at + 1) ws) k)) (ap (λ (k : ℕ). n - k + 1) (takes-operand (getD ws at 0) l) ∙ omega arith)
-
-  -- an operation leaves the word as it was
-  pub value-operation : (vars : List Slot) (left : ℕ) → at < length ws → getD ws at 0 < 13 → valueSteps vars left (drop at ws) ≡ valueStep vars left (itemOf (getD ws at 0)) ∷ valueSteps vars left (drop (at + 1) ws)
-  value-operation vars left h l =
-      value-next vars left h
-      ∙ ap (λ (n : ℕ). valueStep vars left (itemOf (getD ws at 0)) ∷ valueSteps vars n (drop (at + 1) ws)) (ap (λ (n : ℕ). left / 2 ^ n) (no-draw (getD ws at 0) (λ e. omega arith)) ∙ div-one left)

@@ -1,19 +1,17 @@
 -- What the inner functions say of words and of the numbers that they hold. No public call speaks of it.
-use Prim.Native.Nat.{ℕ, zero, suc, _*_, _/_, _%_, _^_}
-use mathlib.Core.Bool.{cond, not}
+use Prim.Native.Nat.{ℕ, _*_, _/_, _%_, _^_}
+use mathlib.Core.Bool.{Bool, true, false, cond}
 use mathlib.Core.List.{List}
-use lib.Dec.{ltb}
-use lib.IntN.{ℤ}
+use lib.Dec.{eqb, ltb}
+use lib.IntN.{ℤ, subℕ}
 use Rattle.grammar.specs.Values.{kindOf, kindWord}
 use Rattle.grammar.specs.Items.{Read, item, none}
 use Rattle.grammar.specs.Draws.{drawsOf}
-use Rattle.grammar.specs.Arith.{isZero}
 use Rattle.grammar.specs.Typing.{Kinded, of, ill, variableKind}
 use Rattle.grammar.specs.Evaluation.{drawOf, valuesOf, binaryOf}
 use Rattle.grammar.specs.declared.values.Val.{Val}
 use Rattle.grammar.specs.declared.values.Val.the-variants.{Boolean, Integer}
 use Rattle.grammar.specs.declared.items.Item.the-variants as Item
-use Rattle.grammar.specs.declared.evaluation.Waiting.{Waiting}
 use Rattle.grammar.specs.declared.evaluation.Evaluated.{Evaluated}
 use Rattle.grammar.specs.declared.evaluation.Evaluated.the-variants.{Known, NoValue}
 use Rattle.grammar.specs.declared.evaluation.Evaluation.{Evaluation}
@@ -21,6 +19,10 @@ use Rattle.grammar.specs.declared.evaluation.Evaluation.{Evaluation}
 -- row w of a table of two bits a row
 abbrev pub rowOf : ℕ → ℕ → ℕ
 rowOf table w = table / 2 ^ (2 * w) % 4
+
+-- whether a word is an operation
+abbrev pub operatesOf : ℕ → Bool
+operatesOf w = cond (eqb w 0) false (ltb w 13)
 
 -- the slot of the variable that a word names, or the first
 abbrev pub slotOf : ℕ → ℕ
@@ -40,15 +42,16 @@ operandKind kinds (item (Item.Binary b)) = ill
 operandKind kinds (item Item.Draw) = ill
 operandKind kinds none = ill
 
--- an operand that waits, by the number of its kind
-unfoldable pub heldAs : ℕ → ℤ → Evaluated
-heldAs zero n = NoValue
-heldAs (suc zero) n = Known (Boolean (not (isZero n)))
-heldAs (suc (suc zero)) n = Known (Integer n)
-heldAs (suc (suc (suc k))) n = NoValue
+-- an integer that waits as z + 2147483648
+abbrev pub wholeOf : ℕ → ℤ
+wholeOf x = subℕ x 2147483648
 
-abbrev pub heldOf : Waiting → Evaluated
-heldOf w = heldAs (w .kind) (w .number)
+-- an operand that waits
+unfoldable pub heldOf : ℕ → Evaluated
+heldOf x =
+    cond (ltb x 4294967296) (Known (Integer (wholeOf x)))
+    (cond (eqb x 4294967296) (Known (Boolean false))
+    (cond (eqb x 4294967297) (Known (Boolean true)) NoValue))
 
 -- a binary operation on values and on operands; no value what is none
 unfoldable pub valuesOn : Read → Val → Val → Evaluated

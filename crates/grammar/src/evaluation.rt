@@ -8,14 +8,15 @@ use crate::values::Val;
 ghost use mathlib.Core.Path.{_≡_};
 ghost use mathlib.Core.Bool.{cond};
 ghost use mathlib.Core.List.{[]};
-ghost use Prim.Native.Nat.{_/_, _%_, _≤_, _<_};
+ghost use Prim.Native.Nat.{_/_, _%_, _<_};
 ghost use lib.Dec.{eqb, ltb};
+ghost use lib.IntN.{subℕ};
 ghost use Rattle.grammar.specs.Bits.{fromBits};
 ghost use Rattle.grammar.specs.Items.{itemOf, operandOf};
 ghost use Rattle.grammar.specs.Run.{made};
-ghost use Rattle.grammar.specs.Arith.{fitted};
+ghost use Rattle.grammar.specs.Arith.{fitted, productOf, quotientOf, remainderOf};
 ghost use Rattle.grammar.specs.Evaluation.{unaryOf, valueStep, evaluationOf};
-ghost use Rattle.grammar.specs.Inner.{heldOf, valuesOn, binaryOn, operandOn, noValueOf};
+ghost use Rattle.grammar.specs.Inner.{operatesOf, wholeOf, heldOf, valuesOn, binaryOn, operandOn, noValueOf};
 
 pub enum Evaluated {
     Known(Val),
@@ -28,47 +29,26 @@ pub struct Evaluation {
     pub rest: u64,
 }
 
-// An operand that waits: a kind, and a boolean or an integer as a number.
-struct Waiting {
-    kind: u32,
-    number: i32,
-}
+// An operand waits as one number: an integer z as z + 2147483648, below FALSE; a boolean as FALSE or TRUE. Any other has no value.
+const FALSE: u64 = 4294967296;
 
-// The kinds of operands; one of any other kind has no value.
-const NONE: u32 = 0;
+const TRUE: u64 = 4294967297;
 
-const BOOLEAN: u32 = 1;
+const NONE: u64 = 8589934592;
 
-const INTEGER: u32 = 2;
-
-fn none() -> Waiting
-    ensures { λ r. ⌜ heldOf r ≡ Evaluated.NoValue ⌝ }
-{
-    Waiting {
-        kind: NONE,
-        number: 0,
-    }
-}
-
-fn boolean(b: bool) -> Waiting
+fn boolean(b: bool) -> u64
     ensures { λ r. ⌜ heldOf r ≡ Evaluated.Known (Val.Boolean b) ⌝ }
 {
-    Waiting {
-        kind: BOOLEAN,
-        number: b as i32,
-    }
+    if b { TRUE } else { FALSE }
 }
 
-fn integer(n: i32) -> Waiting
+fn integer(n: i32) -> u64
     ensures { λ r. ⌜ heldOf r ≡ Evaluated.Known (Val.Integer n) ⌝ }
 {
-    Waiting {
-        kind: INTEGER,
-        number: n,
-    }
+    (n as i64 + 2147483648) as u64
 }
 
-fn of_value(v: Val) -> Waiting
+fn of_value(v: Val) -> u64
     ensures { λ r. ⌜ heldOf r ≡ Evaluated.Known v ⌝ }
 {
     match v {
@@ -77,163 +57,228 @@ fn of_value(v: Val) -> Waiting
     }
 }
 
-// The value that waits.
-fn held(w: Waiting) -> Evaluated
-    ensures { λ r. ⌜ r ≡ heldOf w ⌝ }
+// The integer that waits.
+fn whole(x: u64) -> i32
+    requires { ⌜ x < 4294967296 ⌝ }
+    ensures { λ r. ⌜ r ≡ wholeOf x ⌝ }
 {
-    let kind = w.kind;
-    let number = w.number;
-    match kind {
-        BOOLEAN => Evaluated::Known(Val::Boolean(number != 0)),
-        INTEGER => Evaluated::Known(Val::Integer(number)),
+    (x as i64 - 2147483648) as i32
+}
+
+// The value that waits.
+fn held(x: u64) -> Evaluated
+    ensures { λ r. ⌜ r ≡ heldOf x ⌝ }
+{
+    if x < FALSE {
+        return Evaluated::Known(Val::Integer(whole(x)));
+    }
+    match x {
+        FALSE => Evaluated::Known(Val::Boolean(false)),
+        TRUE => Evaluated::Known(Val::Boolean(true)),
         _ => Evaluated::NoValue,
     }
 }
 
+// The integer z where it has 32 bits, from z + 4294967296.
+fn within(s: u64) -> u64
+    ensures { λ r. ⌜ heldOf r ≡ fitted (subℕ s 4294967296) ⌝ }
+{
+    if s < 2147483648 {
+        return NONE;
+    }
+    if 6442450944 <= s {
+        return NONE;
+    }
+    s - 2147483648
+}
+
 // The integer where it has 32 bits.
-fn in_range(z: i64) -> Waiting
+fn in_range(z: i64) -> u64
     ensures { λ r. ⌜ heldOf r ≡ fitted z ⌝ }
 {
     if z < -2147483648 {
-        return none();
+        return NONE;
     }
     if 2147483647 < z {
-        return none();
+        return NONE;
     }
     integer(z as i32)
 }
 
-// The operation of a word on two integers: exact at 64 bits, then cut to 32.
-fn integers(w: u64, a: i32, b: i32) -> Waiting
-    ensures { λ r. ⌜ heldOf r ≡ valuesOn (itemOf w) (Val.Integer a) (Val.Integer b) ⌝ }
+// These are exact at 64 bits.
+fn product(a: i32, b: i32) -> u64
+    ensures { λ r. ⌜ heldOf r ≡ productOf a b ⌝ }
 {
     let x = a as i64;
     let y = b as i64;
+    in_range(x * y)
+}
+
+fn quotient(a: i32, b: i32) -> u64
+    ensures { λ r. ⌜ heldOf r ≡ quotientOf a b ⌝ }
+{
+    let x = a as i64;
+    let y = b as i64;
+    if y == 0 {
+        return NONE;
+    }
+    in_range(x / y)
+}
+
+fn remainder(a: i32, b: i32) -> u64
+    ensures { λ r. ⌜ heldOf r ≡ remainderOf a b ⌝ }
+{
+    let x = a as i64;
+    let y = b as i64;
+    if y == 0 {
+        return NONE;
+    }
+    in_range(x % y)
+}
+
+// The operation of a word on two integers that wait.
+fn integers(w: u64, x: u64, y: u64) -> u64
+    requires { ⌜ x < 4294967296 ⌝ }
+    requires { ⌜ y < 4294967296 ⌝ }
+    ensures { λ r. ⌜ heldOf r ≡ valuesOn (itemOf w) (Val.Integer (wholeOf x)) (Val.Integer (wholeOf y)) ⌝ }
+{
     match w {
-        items::ADD => in_range(x + y),
-        items::SUBTRACT => in_range(x - y),
-        items::MULTIPLY => in_range(x * y),
-        items::DIVIDE => { if y == 0 { none() } else { in_range(x / y) } }
-        items::REMAINDER => { if y == 0 { none() } else { in_range(x % y) } }
+        items::ADD => within(x + y),
+        items::SUBTRACT => within(x + 4294967296 - y),
+        items::MULTIPLY => product(whole(x), whole(y)),
+        items::DIVIDE => quotient(whole(x), whole(y)),
+        items::REMAINDER => remainder(whole(x), whole(y)),
         items::EQUAL => boolean(x == y),
         items::LESS => boolean(x < y),
         items::LESS_OR_EQUAL => boolean(x <= y),
-        _ => none(),
+        _ => NONE,
     }
 }
 
-fn booleans(w: u64, a: bool, b: bool) -> Waiting
+fn booleans(w: u64, a: bool, b: bool) -> u64
     ensures { λ r. ⌜ heldOf r ≡ valuesOn (itemOf w) (Val.Boolean a) (Val.Boolean b) ⌝ }
 {
     match w {
         items::AND => boolean(a & b),
         items::OR => boolean(a | b),
         items::EQUAL => boolean(a == b),
-        _ => none(),
+        _ => NONE,
     }
 }
 
 // The operation of a word on two operands, which have to be of one kind.
-fn binary(w: u64, a: Waiting, b: Waiting) -> Waiting
+fn binary(w: u64, a: u64, b: u64) -> u64
     ensures { λ r. ⌜ heldOf r ≡ binaryOn (itemOf w) (heldOf a) (heldOf b) ⌝ }
 {
-    let kind = a.kind;
-    if b.kind != kind {
-        return none();
+    if a < FALSE {
+        if b < FALSE {
+            return integers(w, a, b);
+        }
+        return NONE;
     }
-    let x = a.number;
-    let y = b.number;
-    match kind {
-        BOOLEAN => booleans(w, x != 0, y != 0),
-        INTEGER => integers(w, x, y),
-        _ => none(),
+    if b < FALSE {
+        return NONE;
     }
+    if TRUE < a {
+        return NONE;
+    }
+    if TRUE < b {
+        return NONE;
+    }
+    booleans(w, a == TRUE, b == TRUE)
 }
 
-fn not(a: Waiting) -> Waiting
+fn not(a: u64) -> u64
     ensures { λ r. ⌜ heldOf r ≡ unaryOf Unary.Not (heldOf a) ⌝ }
 {
-    let kind = a.kind;
-    let x = a.number;
-    match kind {
-        BOOLEAN => boolean(x == 0),
-        _ => none(),
+    match a {
+        FALSE => TRUE,
+        TRUE => FALSE,
+        _ => NONE,
     }
 }
 
-fn negate(a: Waiting) -> Waiting
+fn negate(a: u64) -> u64
     ensures { λ r. ⌜ heldOf r ≡ unaryOf Unary.Negate (heldOf a) ⌝ }
 {
-    let kind = a.kind;
-    let x = a.number;
-    match kind {
-        INTEGER => integers(items::SUBTRACT, 0, x),
-        _ => none(),
+    if a < FALSE {
+        return integers(items::SUBTRACT, 2147483648, a);
     }
+    NONE
 }
 
-// What the operation of a word makes of its operands; a word that is none has no value.
-fn operation(w: u64, a: Waiting, b: Waiting) -> Waiting
+// What the operation of a word makes of its operands; a word that is none has no value. Each has an arm, and so code of its own.
+fn operation(w: u64, a: u64, b: u64) -> u64
     requires { ⌜ w < 13 ⌝ }
     ensures { λ r. ⌜ heldOf r ≡ made (valueStep [] 0 (itemOf w)) (heldOf a) (heldOf b) ⌝ }
 {
     match w {
         items::NOT => not(a),
         items::NEGATE => negate(a),
+        items::AND => binary(items::AND, a, b),
+        items::OR => binary(items::OR, a, b),
+        items::ADD => binary(items::ADD, a, b),
+        items::SUBTRACT => binary(items::SUBTRACT, a, b),
+        items::MULTIPLY => binary(items::MULTIPLY, a, b),
+        items::DIVIDE => binary(items::DIVIDE, a, b),
+        items::REMAINDER => binary(items::REMAINDER, a, b),
+        items::EQUAL => binary(items::EQUAL, a, b),
+        items::LESS => binary(items::LESS, a, b),
+        items::LESS_OR_EQUAL => binary(items::LESS_OR_EQUAL, a, b),
         _ => binary(w, a, b),
     }
 }
 
-fn truth(payload: u64) -> Waiting
+fn truth(payload: u64) -> u64
     ensures { λ r. ⌜ heldOf r ≡ cond (ltb payload 2) (Evaluated.Known (Val.Boolean (eqb payload 1))) Evaluated.NoValue ⌝ }
 {
     if payload < 2 {
         return boolean(payload == 1);
     }
-    none()
+    NONE
 }
 
-fn number(payload: u64) -> Waiting
+fn number(payload: u64) -> u64
     ensures { λ r. ⌜ heldOf r ≡ cond (ltb payload 4294967296) (Evaluated.Known (Val.Integer (fromBits payload))) Evaluated.NoValue ⌝ }
 {
     if payload < 4294967296 {
         return integer(bits::from_bits(payload as u32));
     }
-    none()
+    NONE
 }
 
 // The value x of a variable, if there is one of this number.
-fn variable(n: u64, x: Val) -> Waiting
+fn variable(n: u64, x: Val) -> u64
     ensures { λ r. ⌜ heldOf r ≡ cond (ltb n 16) (Evaluated.Known x) Evaluated.NoValue ⌝ }
 {
     if n < 16 {
         return of_value(x);
     }
-    none()
+    NONE
 }
 
-// The operand that a word adds: a constant, or x, the value of the variable that it names.
-fn constant(w: u64, x: Val) -> Waiting
-    ensures { λ r. ⌜ heldOf r ≡ operandOn x (w / 256) 0 (operandOf (w % 256) (w / 256)) ⌝ }
+// The constant that a word adds, whatever the variables hold: it is not the word of one.
+fn constant(w: u64) -> u64
+    requires { ⌜ (w % 256 ≡ 16 → ⊥) ⌝ }
+    ensures { λ r. ⌜ ((x : Val) → heldOf r ≡ operandOn x (w / 256) 0 (operandOf (w % 256) (w / 256))) ⌝ }
 {
     let op = w % 256;
     let payload = w / 256;
     match op {
         items::TRUTH => truth(payload),
         items::NUMBER => number(payload),
-        items::VARIABLE => variable(payload, x),
-        _ => none(),
+        _ => NONE,
     }
 }
 
-fn operand(w: u64, x: Val, left: u64) -> Waiting
-    requires { ⌜ 13 ≤ w ⌝ }
-    ensures { λ r. ⌜ heldOf r ≡ operandOn x (w / 256) left (itemOf w) ⌝ }
+// Whether a word is an operation.
+fn operates(w: u64) -> bool
+    ensures { λ r. ⌜ r ≡ operatesOf w ⌝ }
 {
-    if w == items::DRAW {
-        return boolean(left % 2 == 1);
+    if w == 0 {
+        return false;
     }
-    constant(w, x)
+    w < items::DRAW
 }
 
 // What sticks or is too deep has no value, and its draws count all the same.
@@ -250,40 +295,43 @@ fn no_value(items: &[u64], word: u64) -> Evaluation
 pub fn evaluate(items: &[u64], vars: [Slot; 16], word: u64) -> Evaluation
     ensures { λ r. ⌜ r ≡ evaluationOf vars word (now (items .entry)) ⌝ }
 {
-    let mut stack = [Waiting {
-        kind: NONE,
-        number: 0,
-    }; 17];
+    let mut stack = [0; 17];
     let mut left = word;
     let mut depth: usize = 0;
     for at in 0..items.len() {
         let w = items[at];
-        if items::DRAW <= w {
-            if 16 <= depth {
+        if operates(w) {
+            let takes = items::takes(w);
+            if depth < takes {
                 return no_value(items, word);
             }
+            let base = depth - takes;
+            let a = stack[base];
+            let b = stack[base + 1];
+            let v = operation(w, a, b);
+            stack[base] = v;
+            depth = base + 1;
+            continue;
+        }
+        if 16 <= depth {
+            return no_value(items, word);
+        }
+        if w % 256 == items::VARIABLE {
             let n = items::slot(w);
             let s = vars[n];
             let x = s.value;
-            let v = operand(w, x, left);
-            stack[depth] = v;
-            left = draws::left(left, w);
+            stack[depth] = variable(w / 256, x);
             depth += 1;
             continue;
         }
-        let takes = items::takes(w);
-        if depth < takes {
-            return no_value(items, word);
+        if w == items::DRAW {
+            stack[depth] = boolean(left % 2 == 1);
+            left = left / 2;
+            depth += 1;
+            continue;
         }
-        let base = depth - takes;
-        if 16 <= base {
-            return no_value(items, word);
-        }
-        let a = stack[base];
-        let b = stack[base + 1];
-        let v = operation(w, a, b);
-        stack[base] = v;
-        depth = base + 1;
+        stack[depth] = constant(w);
+        depth += 1;
     }
     if depth != 1 {
         return no_value(items, word);

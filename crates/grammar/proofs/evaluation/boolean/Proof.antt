@@ -1,11 +1,14 @@
-use Rattle.grammar.proofs.HeldLaws.{held-boolean}
-use Prim.Native.Nat.{_-_}
-use borrow.Author.Needs.{needs}
+use Rattle.grammar.specs.Inner.{heldOf}
 use Rattle.grammar.proofs.evaluation.boolean.Statement.{statement}
 use Rattle.grammar.proofs.evaluation.boolean.Tie as tie
 
 returns : tie.Need-returns
-returns c = held-boolean (c .args .b)
+unfolding heldOf
+returns c = rw (c .if1 .taken)
+
+returns-2 : tie.Need-returns-2
+unfolding heldOf
+returns-2 c = rw (c .if1 .left)
 
 pub boolean-spec : {M : Type 1} → statement M
-boolean-spec = tie.close (tie.spec (λ c. search needs) returns)
+boolean-spec = tie.close (tie.spec returns returns-2)

@@ -1,3 +1,4 @@
+use Rattle.grammar.proofs.HeldLaws.{nothing}
 use Rattle.grammar.specs.Items.{itemOf}
 use Rattle.grammar.specs.Inner.{valuesOn}
 use Rattle.grammar.proofs.OperationLaws.{no-booleans}
@@ -20,17 +21,7 @@ unfolding itemOf valuesOn
 returns-3 c = rw (c .before .match .keys3) (c .boolean3 .ensures)
 
 returns-4 : tie.Need-returns-4
-returns-4 c = c .none .ensures ∙ no-booleans _ _ (c .before .before .args .w) (c .before .match .rest)
+returns-4 c = nothing ∙ no-booleans _ _ (c .before .args .w) (c .match .rest)
 
 pub booleans-spec : {M : Type 1} → statement M
-booleans-spec =
-    tie.close
-    (tie.spec
-    (λ c κs. search needs)
-    (λ c κs. search needs)
-    (λ c κs. search needs)
-    (λ c κs. search needs)
-    returns
-    returns-2
-    returns-3
-    returns-4)
+booleans-spec = tie.close (tie.spec (λ c κs. search needs) (λ c κs. search needs) (λ c κs. search needs) returns returns-2 returns-3 returns-4)

@@ -1,6 +1,7 @@
 use mathlib.Core.Bool.{false}
 use lib.Signed.{ltZ}
 use Rattle.grammar.specs.Arith.{least, most}
+use Rattle.grammar.specs.Inner.{heldOf}
 use mir.Facts.{toZ-ofZ}
 use Rattle.grammar.proofs.Signed.{between}
 use Prim.Native.Nat.{_-_}
@@ -10,12 +11,14 @@ use Rattle.grammar.proofs.evaluation.in_range.Statement.{statement}
 use Rattle.grammar.proofs.evaluation.in_range.Tie as tie
 
 returns : tie.Need-returns
-returns c = let e = toZ-ofZ (c .before .before .fits .z) in c .none .ensures ∙ simp (rw e at (c .before .if1 .taken))
+unfolding heldOf
+returns c = let e = toZ-ofZ (c .before .fits .z) in simp (rw e at (c .if1 .taken))
 
 returns-2 : tie.Need-returns-2
+unfolding heldOf
 returns-2 c =
-    let e = toZ-ofZ (c .before .before .before .fits .z) in
-    c .none2 .ensures ∙ simp (rw e at (c .before .before .if1 .left), rw e at (c .before .if2 .taken))
+    let e = toZ-ofZ (c .before .before .fits .z) in
+    simp (rw e at (c .before .if1 .left), rw e at (c .if2 .taken))
 
 cast-integer : tie.Need-cast-integer
 cast-integer c = between _ (c .before .if1 .left) (c .if2 .left)
@@ -30,13 +33,4 @@ returns-3 c =
     c .integer .ensures ∙ rw (e, toZ-ofZ (between z l m), l, m)
 
 pub in-range-spec : {M : Type 1} → statement M
-in-range-spec =
-    tie.close
-    (tie.spec
-    (λ c κs. search needs)
-    returns
-    (λ c κs. search needs)
-    returns-2
-    cast-integer
-    (λ c κs. search needs)
-    returns-3)
+in-range-spec = tie.close (tie.spec returns returns-2 cast-integer (λ c κs. search needs) returns-3)

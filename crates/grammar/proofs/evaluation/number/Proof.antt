@@ -1,3 +1,4 @@
+use Rattle.grammar.specs.Inner.{heldOf}
 use borrow.Author.Tests.{lt-ltb, le-ltb}
 use mir.Syntax.{w32}
 use mir.Val.{toZ, ofZ}
@@ -14,9 +15,10 @@ returns c =
     rw (lt-ltb _ _ (c .before .before .if1 .taken)) (c .integer .ensures ∙ rw (e, c .before .from-bits .ensures))
 
 returns-2 : tie.Need-returns-2
-returns-2 c = rw (le-ltb _ _ (c .before .if1 .left)) (c .none .ensures)
+unfolding heldOf
+returns-2 c = rw (le-ltb _ _ (c .if1 .left))
 
 pub number-spec : {M : Type 1} → statement M
 number-spec =
     tie.close
-    (tie.spec (λ c. search needs) (λ c κs. search needs) (λ c κs. search needs) returns (λ c κs. search needs) returns-2)
+    (tie.spec (λ c. search needs) (λ c κs. search needs) (λ c κs. search needs) returns returns-2)

@@ -1,3 +1,4 @@
+use Rattle.grammar.specs.Inner.{heldOf}
 use borrow.Author.Tests.{lt-ltb, le-ltb}
 use Prim.Native.Nat.{_-_}
 use borrow.Author.Needs.{needs}
@@ -8,7 +9,8 @@ returns : tie.Need-returns
 returns c = rw (lt-ltb _ _ (c .before .if1 .taken)) (c .of-value .ensures)
 
 returns-2 : tie.Need-returns-2
-returns-2 c = rw (le-ltb _ _ (c .before .if1 .left)) (c .none .ensures)
+unfolding heldOf
+returns-2 c = rw (le-ltb _ _ (c .if1 .left))
 
 pub variable-spec : {M : Type 1} → statement M
-variable-spec = tie.close (tie.spec (λ c κs. search needs) returns (λ c κs. search needs) returns-2)
+variable-spec = tie.close (tie.spec (λ c κs. search needs) returns returns-2)

@@ -1,8 +1,7 @@
 use mir.Val.{SFits}
-use lib.Dec.{lit≤}
 use mir.Syntax.{w32}
-use Rattle.grammar.proofs.Signed.{same-at}
-use Prim.Native.Nat.{_-_, _≤_}
+use Rattle.grammar.proofs.Signed.{same-bits}
+use Prim.Native.Nat.{_-_}
 use borrow.Author.Needs.{needs}
 use Rattle.grammar.proofs.values.Val.equals.Statement.{statement}
 use Rattle.grammar.proofs.values.Val.equals.Tie as tie
@@ -16,7 +15,7 @@ returns-3 c =
     let b = c .before .other2 .given .0 .0 in
     let fa : SFits w32 a = search needs in
     let fb : SFits w32 b = search needs in
-    rw (c .before .before .before .before .self2 .given .1, c .before .other2 .given .1) (same-at w32 (lit≤ tt) a b fa fb)
+    rw (c .before .before .before .before .self2 .given .1, c .before .other2 .given .1) (same-bits a b fa fb)
 
 pub equals-spec : {M : Type 1} → statement M
 equals-spec =
