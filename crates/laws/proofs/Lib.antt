@@ -1,4 +1,5 @@
 pub mod Ladder
+pub mod BelowLaws
 pub mod Tests
 pub mod Each
 pub mod Lists

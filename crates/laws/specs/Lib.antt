@@ -1,2 +1,3 @@
 pub mod Ladder
+pub mod Below
 pub mod Examples

@@ -1,0 +1,544 @@
+// The test behind refusal 32: whether a table that is handed in is well formed. Its cost goes by what is used: no unused
+// row or word is read.
+use crate::inner;
+use crate::sizes;
+use grammar::draws;
+use grammar::typing;
+use grammar::typing::Typed;
+ghost use mathlib.Core.Path.{_≡_};
+ghost use mathlib.Core.Bool.{true};
+ghost use Prim.Native.Nat.{ℕ, _≤_, _<_};
+ghost use Rattle.laws.specs.Below.{allBelow, sumBelow};
+ghost use Rattle.graph_tables.specs.Words.{Words, variableCount, clockCount, locationCount, actionCount, processCount, transitionCount, kindAt, kindsOf, valueAt, placeAt, invariantCount, actionKind, resetCount, effectCount, resetAt, effectVar, effectLength, keyOf, guardLength, limitCount, clockOf, lowerOf, upperOf, guardItems, effectItems};
+ghost use Rattle.graph_tables.specs.Formed.{Counted, BoundsFit, countsFormed, variableFormed, boundFormed, clockBefore, limitFormed, limitsFormed, locationFormed, zeroInside, processFormed, resetBefore, resetFormed, resetsFormed, isTyped, typedAs, effectFormed, effectDraws, plainFormed, expressionFormed, sendFormed, targetFormed, receiveFormed, actionFormed, actionKnown, keyFormed, keyBefore, guardFormed, transitionFormed, partsFormed, startedOf, wellFormed};
+
+fn counts_formed(t: &[u64]) -> bool
+    requires { ⌜ Words (now t) ⌝ }
+    ensures { λ r. ⌜ r ≡ countsFormed (now (t .entry)) ⌝ }
+{
+    if sizes::VARIABLES < inner::variable_count(t) {
+        return false;
+    }
+    if sizes::CLOCKS < inner::clock_count(t) {
+        return false;
+    }
+    if sizes::LOCATIONS < inner::location_count(t) {
+        return false;
+    }
+    if sizes::ACTIONS < inner::action_count(t) {
+        return false;
+    }
+    if sizes::PROCESSES < inner::process_count(t) {
+        return false;
+    }
+    inner::transition_count(t) <= sizes::TRANSITIONS
+}
+
+fn variable_formed(t: &[u64], v: usize) -> bool
+    requires { ⌜ Words (now t) × (v < 16) ⌝ }
+    ensures { λ r. ⌜ r ≡ variableFormed (now (t .entry)) v ⌝ }
+{
+    let kind = inner::kind_at(t, v);
+    let value = inner::value_at(t, v);
+    if kind == 0 {
+        return value < 2;
+    }
+    if kind != 1 {
+        return false;
+    }
+    value < 4294967296
+}
+
+fn bound_formed(w: u64) -> bool
+    ensures { λ r. ⌜ r ≡ boundFormed w ⌝ }
+{
+    if w == 0 {
+        return true;
+    }
+    let kind = w % 4;
+    if kind == 0 {
+        return false;
+    }
+    if kind == 3 {
+        return false;
+    }
+    w / 4 < 4294967296
+}
+
+fn clock_before(t: &[u64], g: usize, i: usize) -> usize
+    requires { ⌜ Words (now t) × (g < 160) × (i < 8) ⌝ }
+    ensures { λ r. ⌜ r ≡ clockBefore (now (t .entry)) g i ⌝ }
+{
+    if i == 0 {
+        return 0;
+    }
+    inner::clock_of(t, g, i - 1)
+}
+
+fn limit_formed(t: &[u64], g: usize, i: usize) -> bool
+    requires { ⌜ Words (now t) × (g < 160) × (i < 8) ⌝ }
+    ensures { λ r. ⌜ r ≡ limitFormed (now (t .entry)) g i ⌝ }
+{
+    let clock = inner::clock_of(t, g, i);
+    if inner::clock_count(t) <= clock {
+        return false;
+    }
+    if !bound_formed(inner::lower_of(t, g, i)) {
+        return false;
+    }
+    if !bound_formed(inner::upper_of(t, g, i)) {
+        return false;
+    }
+    clock_before(t, g, i) <= clock
+}
+
+fn all_limits_formed(t: &[u64], g: usize, n: usize) -> bool
+    requires { ⌜ Words (now t) × (g < 160) × (n ≤ 8) ⌝ }
+    ensures { λ r. ⌜ r ≡ allBelow n (limitFormed (now (t .entry)) g) ⌝ }
+{
+    for i in 0..n {
+        if !limit_formed(t, g, i) {
+            return false;
+        }
+    }
+    true
+}
+
+fn limits_formed(t: &[u64], g: usize, n: usize) -> bool
+    requires { ⌜ Words (now t) × (g < 160) ⌝ }
+    ensures { λ r. ⌜ r ≡ limitsFormed (now (t .entry)) g n ⌝ }
+{
+    if sizes::LIMITS < n {
+        return false;
+    }
+    all_limits_formed(t, g, n)
+}
+
+fn location_formed(t: &[u64], l: usize) -> bool
+    requires { ⌜ Words (now t) × (l < 32) ⌝ }
+    ensures { λ r. ⌜ r ≡ locationFormed (now (t .entry)) l ⌝ }
+{
+    limits_formed(t, 128 + l, inner::invariant_count(t, l))
+}
+
+fn zero_inside(t: &[u64], g: usize, i: usize) -> bool
+    requires { ⌜ Words (now t) × (g < 160) × (i < 8) × BoundsFit (now t) g i ⌝ }
+    ensures { λ r. ⌜ r ≡ zeroInside (now (t .entry)) g i ⌝ }
+{
+    inner::limit_range(t, g, i).contains(0)
+}
+
+fn all_zero_inside(t: &[u64], g: usize, n: usize) -> bool
+    requires { ⌜ Words (now t) × (g < 160) × (n ≤ 8) × ((i : ℕ) → i < n → BoundsFit (now t) g i) ⌝ }
+    ensures { λ r. ⌜ r ≡ allBelow n (zeroInside (now (t .entry)) g) ⌝ }
+{
+    for i in 0..n {
+        if !zero_inside(t, g, i) {
+            return false;
+        }
+    }
+    true
+}
+
+fn process_formed(t: &[u64], p: usize) -> bool
+    requires { ⌜ Words (now t) × (p < 4) × (locationCount (now t) ≤ 32) × (allBelow (locationCount (now t)) (locationFormed (now t)) ≡ true) ⌝ }
+    ensures { λ r. ⌜ r ≡ processFormed (now (t .entry)) p ⌝ }
+{
+    let l = inner::place_at(t, p);
+    if inner::location_count(t) <= l {
+        return false;
+    }
+    all_zero_inside(t, 128 + l, inner::invariant_count(t, l))
+}
+
+fn reset_before(t: &[u64], a: usize, i: usize) -> usize
+    requires { ⌜ Words (now t) × (a < 32) × (i < 16) ⌝ }
+    ensures { λ r. ⌜ r ≡ resetBefore (now (t .entry)) a i ⌝ }
+{
+    if i == 0 {
+        return 0;
+    }
+    inner::reset_at(t, a, i - 1)
+}
+
+fn reset_formed(t: &[u64], a: usize, i: usize) -> bool
+    requires { ⌜ Words (now t) × (a < 32) × (i < 16) ⌝ }
+    ensures { λ r. ⌜ r ≡ resetFormed (now (t .entry)) a i ⌝ }
+{
+    let clock = inner::reset_at(t, a, i);
+    if inner::clock_count(t) <= clock {
+        return false;
+    }
+    reset_before(t, a, i) <= clock
+}
+
+fn all_resets_formed(t: &[u64], a: usize, n: usize) -> bool
+    requires { ⌜ Words (now t) × (a < 32) × (n ≤ 16) ⌝ }
+    ensures { λ r. ⌜ r ≡ allBelow n (resetFormed (now (t .entry)) a) ⌝ }
+{
+    for i in 0..n {
+        if !reset_formed(t, a, i) {
+            return false;
+        }
+    }
+    true
+}
+
+fn resets_formed(t: &[u64], a: usize) -> bool
+    requires { ⌜ Words (now t) × (a < 32) ⌝ }
+    ensures { λ r. ⌜ r ≡ resetsFormed (now (t .entry)) a ⌝ }
+{
+    let n = inner::reset_count(t, a);
+    if sizes::RESETS < n {
+        return false;
+    }
+    all_resets_formed(t, a, n)
+}
+
+fn is_typed(typed: Typed) -> bool
+    ensures { λ r. ⌜ r ≡ isTyped typed ⌝ }
+{
+    match typed {
+        Typed::Known(_) => true,
+        Typed::IllTyped => false,
+        Typed::TableFull => false,
+    }
+}
+
+fn typed_as(w: u64, typed: Typed) -> bool
+    ensures { λ r. ⌜ r ≡ typedAs w typed ⌝ }
+{
+    match typed {
+        Typed::Known(k) => k.word() == w,
+        Typed::IllTyped => false,
+        Typed::TableFull => false,
+    }
+}
+
+fn effect_formed(t: &[u64], a: usize, e: usize) -> bool
+    requires { ⌜ Words (now t) × (variableCount (now t) ≤ 16) × (a < 32) × (e < 16) ⌝ }
+    ensures { λ r. ⌜ r ≡ effectFormed (now (t .entry)) a e ⌝ }
+{
+    let v = inner::effect_var(t, a, e);
+    if inner::variable_count(t) <= v {
+        return false;
+    }
+    if sizes::ITEMS < inner::effect_length(t, a, e) {
+        return false;
+    }
+    typed_as(
+        inner::kind_at(t, v),
+        typing::type_of(inner::effect_items(t, a, e), inner::kinds_of(t)),
+    )
+}
+
+fn all_effects_formed(t: &[u64], a: usize, n: usize) -> bool
+    requires { ⌜ Words (now t) × (variableCount (now t) ≤ 16) × (a < 32) × (n ≤ 16) ⌝ }
+    ensures { λ r. ⌜ r ≡ allBelow n (effectFormed (now (t .entry)) a) ⌝ }
+{
+    for i in 0..n {
+        if !effect_formed(t, a, i) {
+            return false;
+        }
+    }
+    true
+}
+
+fn effect_draws(t: &[u64], a: usize, e: usize) -> usize
+    requires { ⌜ Words (now t) × (a < 32) × (e < 16) × (effectLength (now t) a e ≤ 64) ⌝ }
+    ensures { λ r. ⌜ (r ≡ effectDraws (now (t .entry)) a e) × (r ≤ 64) ⌝ }
+{
+    draws::count_draws(inner::effect_items(t, a, e))
+}
+
+fn all_draws(t: &[u64], a: usize, n: usize) -> usize
+    requires { ⌜ Words (now t) × (a < 32) × (n ≤ 16) × ((e : ℕ) → e < n → effectLength (now t) a e ≤ 64) ⌝ }
+    ensures { λ r. ⌜ r ≡ sumBelow n (effectDraws (now (t .entry)) a) ⌝ }
+{
+    let mut sum: usize = 0;
+    for e in 0..n {
+        sum += effect_draws(t, a, e);
+    }
+    sum
+}
+
+fn plain_formed(t: &[u64], a: usize) -> bool
+    requires { ⌜ Words (now t) × (variableCount (now t) ≤ 16) × (a < 32) ⌝ }
+    ensures { λ r. ⌜ r ≡ plainFormed (now (t .entry)) a ⌝ }
+{
+    if !resets_formed(t, a) {
+        return false;
+    }
+    let n = inner::effect_count(t, a);
+    if sizes::EFFECTS < n {
+        return false;
+    }
+    if !all_effects_formed(t, a, n) {
+        return false;
+    }
+    all_draws(t, a, n) <= sizes::DRAWS
+}
+
+fn expression_formed(t: &[u64], a: usize, e: usize) -> bool
+    requires { ⌜ Words (now t) × (variableCount (now t) ≤ 16) × (a < 32) × (e < 16) ⌝ }
+    ensures { λ r. ⌜ r ≡ expressionFormed (now (t .entry)) a e ⌝ }
+{
+    if sizes::ITEMS < inner::effect_length(t, a, e) {
+        return false;
+    }
+    is_typed(typing::type_of(inner::effect_items(t, a, e), inner::kinds_of(t)))
+}
+
+fn all_expressions_formed(t: &[u64], a: usize, n: usize) -> bool
+    requires { ⌜ Words (now t) × (variableCount (now t) ≤ 16) × (a < 32) × (n ≤ 16) ⌝ }
+    ensures { λ r. ⌜ r ≡ allBelow n (expressionFormed (now (t .entry)) a) ⌝ }
+{
+    for i in 0..n {
+        if !expression_formed(t, a, i) {
+            return false;
+        }
+    }
+    true
+}
+
+fn send_formed(t: &[u64], a: usize) -> bool
+    requires { ⌜ Words (now t) × (variableCount (now t) ≤ 16) × (a < 32) ⌝ }
+    ensures { λ r. ⌜ r ≡ sendFormed (now (t .entry)) a ⌝ }
+{
+    if inner::reset_count(t, a) != 0 {
+        return false;
+    }
+    let n = inner::effect_count(t, a);
+    if sizes::MESSAGE < n {
+        return false;
+    }
+    if !all_expressions_formed(t, a, n) {
+        return false;
+    }
+    all_draws(t, a, n) <= sizes::DRAWS
+}
+
+fn target_formed(t: &[u64], a: usize, e: usize) -> bool
+    requires { ⌜ Words (now t) × (a < 32) × (e < 16) ⌝ }
+    ensures { λ r. ⌜ r ≡ targetFormed (now (t .entry)) a e ⌝ }
+{
+    inner::effect_var(t, a, e) < inner::variable_count(t)
+}
+
+fn all_targets_formed(t: &[u64], a: usize, n: usize) -> bool
+    requires { ⌜ Words (now t) × (a < 32) × (n ≤ 16) ⌝ }
+    ensures { λ r. ⌜ r ≡ allBelow n (targetFormed (now (t .entry)) a) ⌝ }
+{
+    for i in 0..n {
+        if !target_formed(t, a, i) {
+            return false;
+        }
+    }
+    true
+}
+
+fn receive_formed(t: &[u64], a: usize) -> bool
+    requires { ⌜ Words (now t) × (a < 32) ⌝ }
+    ensures { λ r. ⌜ r ≡ receiveFormed (now (t .entry)) a ⌝ }
+{
+    if inner::reset_count(t, a) != 0 {
+        return false;
+    }
+    let n = inner::effect_count(t, a);
+    if sizes::MESSAGE < n {
+        return false;
+    }
+    all_targets_formed(t, a, n)
+}
+
+fn action_formed(t: &[u64], a: usize) -> bool
+    requires { ⌜ Words (now t) × (variableCount (now t) ≤ 16) × (a < 32) ⌝ }
+    ensures { λ r. ⌜ r ≡ actionFormed (now (t .entry)) a ⌝ }
+{
+    let kind = inner::action_kind(t, a);
+    if kind == 0 {
+        return plain_formed(t, a);
+    }
+    if kind == 1 {
+        return send_formed(t, a);
+    }
+    if kind != 2 {
+        return false;
+    }
+    receive_formed(t, a)
+}
+
+fn action_known(t: &[u64], a: u64) -> bool
+    requires { ⌜ Words (now t) ⌝ }
+    ensures { λ r. ⌜ r ≡ actionKnown (now (t .entry)) a ⌝ }
+{
+    if a == 4294967295 {
+        return true;
+    }
+    (a as usize) < inner::action_count(t)
+}
+
+fn key_formed(t: &[u64], key: u64) -> bool
+    requires { ⌜ Words (now t) ⌝ }
+    ensures { λ r. ⌜ r ≡ keyFormed (now (t .entry)) key ⌝ }
+{
+    let n = inner::location_count(t);
+    if n <= (key / 137438953472) as usize {
+        return false;
+    }
+    if n <= (key % 32) as usize {
+        return false;
+    }
+    action_known(t, key / 32 % 4294967296)
+}
+
+fn key_before(t: &[u64], k: usize) -> u64
+    requires { ⌜ Words (now t) × (k < 128) ⌝ }
+    ensures { λ r. ⌜ r ≡ keyBefore (now (t .entry)) k ⌝ }
+{
+    if k == 0 {
+        return 0;
+    }
+    inner::key_of(t, k - 1)
+}
+
+fn guard_formed(t: &[u64], k: usize) -> bool
+    requires { ⌜ Words (now t) × (variableCount (now t) ≤ 16) × (k < 128) ⌝ }
+    ensures { λ r. ⌜ r ≡ guardFormed (now (t .entry)) k ⌝ }
+{
+    let n = inner::guard_length(t, k);
+    if n == 0 {
+        return true;
+    }
+    if sizes::ITEMS < n {
+        return false;
+    }
+    let items = inner::guard_items(t, k);
+    if !typed_as(0, typing::type_of(items, inner::kinds_of(t))) {
+        return false;
+    }
+    draws::count_draws(items) == 0
+}
+
+fn transition_formed(t: &[u64], k: usize) -> bool
+    requires { ⌜ Words (now t) × (variableCount (now t) ≤ 16) × (k < 128) ⌝ }
+    ensures { λ r. ⌜ r ≡ transitionFormed (now (t .entry)) k ⌝ }
+{
+    let key = inner::key_of(t, k);
+    if !key_formed(t, key) {
+        return false;
+    }
+    if key < key_before(t, k) {
+        return false;
+    }
+    if !guard_formed(t, k) {
+        return false;
+    }
+    limits_formed(t, k, inner::limit_count(t, k))
+}
+
+fn all_variables_formed(t: &[u64], n: usize) -> bool
+    requires { ⌜ Words (now t) × (n ≤ 16) ⌝ }
+    ensures { λ r. ⌜ r ≡ allBelow n (variableFormed (now (t .entry))) ⌝ }
+{
+    for i in 0..n {
+        if !variable_formed(t, i) {
+            return false;
+        }
+    }
+    true
+}
+
+fn all_locations_formed(t: &[u64], n: usize) -> bool
+    requires { ⌜ Words (now t) × (n ≤ 32) ⌝ }
+    ensures { λ r. ⌜ r ≡ allBelow n (locationFormed (now (t .entry))) ⌝ }
+{
+    for i in 0..n {
+        if !location_formed(t, i) {
+            return false;
+        }
+    }
+    true
+}
+
+fn all_processes_formed(t: &[u64], n: usize) -> bool
+    requires { ⌜ Words (now t) × (n ≤ 4) × (locationCount (now t) ≤ 32) × (allBelow (locationCount (now t)) (locationFormed (now t)) ≡ true) ⌝ }
+    ensures { λ r. ⌜ r ≡ allBelow n (processFormed (now (t .entry))) ⌝ }
+{
+    for i in 0..n {
+        if !process_formed(t, i) {
+            return false;
+        }
+    }
+    true
+}
+
+fn all_actions_formed(t: &[u64], n: usize) -> bool
+    requires { ⌜ Words (now t) × (variableCount (now t) ≤ 16) × (n ≤ 32) ⌝ }
+    ensures { λ r. ⌜ r ≡ allBelow n (actionFormed (now (t .entry))) ⌝ }
+{
+    for i in 0..n {
+        if !action_formed(t, i) {
+            return false;
+        }
+    }
+    true
+}
+
+fn all_transitions_formed(t: &[u64], n: usize) -> bool
+    requires { ⌜ Words (now t) × (variableCount (now t) ≤ 16) × (n ≤ 128) ⌝ }
+    ensures { λ r. ⌜ r ≡ allBelow n (transitionFormed (now (t .entry))) ⌝ }
+{
+    for i in 0..n {
+        if !transition_formed(t, i) {
+            return false;
+        }
+    }
+    true
+}
+
+fn parts_formed(t: &[u64]) -> bool
+    requires { ⌜ Words (now t) × Counted (now t) ⌝ }
+    ensures { λ r. ⌜ r ≡ partsFormed (now (t .entry)) ⌝ }
+{
+    if !all_variables_formed(t, inner::variable_count(t)) {
+        return false;
+    }
+    if !all_locations_formed(t, inner::location_count(t)) {
+        return false;
+    }
+    if !all_processes_formed(t, inner::process_count(t)) {
+        return false;
+    }
+    if !all_actions_formed(t, inner::action_count(t)) {
+        return false;
+    }
+    all_transitions_formed(t, inner::transition_count(t))
+}
+
+// Whether there is a process, where there has to be one.
+fn started(t: &[u64], building: bool) -> bool
+    requires { ⌜ Words (now t) ⌝ }
+    ensures { λ r. ⌜ r ≡ startedOf (now (t .entry)) building ⌝ }
+{
+    if building {
+        return true;
+    }
+    0 < inner::process_count(t)
+}
+
+// Whether a table is well formed; while a graph is being built it may lack a process.
+pub fn well_formed(t: &[u64], building: bool) -> bool
+    ensures { λ r. ⌜ r ≡ wellFormed (now (t .entry)) building ⌝ }
+{
+    if t.len() != sizes::WORDS {
+        return false;
+    }
+    if !counts_formed(t) {
+        return false;
+    }
+    if !started(t, building) {
+        return false;
+    }
+    parts_formed(t)
+}
