@@ -68,7 +68,7 @@ binaryKind Equal = alike
 binaryKind Less = takes2 Integer Boolean
 binaryKind LessOrEqual = takes2 Integer Boolean
 
--- a kind as a word, 2 for none
+-- the kind that a word of a table stands for: none from 2 on
 abbrev pub kindedAt : ℕ → Kinded
 kindedAt zero = of Boolean
 kindedAt (suc zero) = of Integer

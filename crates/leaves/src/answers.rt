@@ -6,6 +6,7 @@ use grammar::typing;
 use grammar::typing::Typed;
 use grammar::values::Slot;
 use grammar::values::Type;
+use grammar::values::Val;
 use text::bounds;
 use text::bounds::Limit;
 use text::items;
@@ -18,6 +19,28 @@ use text::tokens;
 use text::values;
 use text::values::Value;
 use time::TimeRange;
+
+// Values, and where the token after them starts.
+struct Values {
+    slots: [Slot; 16],
+    next: usize,
+}
+
+// The values from a place on, 16 at most, up to a token that is none. The slots past them are false.
+fn read_values(line: &[u8], at: usize) -> Values {
+    let mut slots = [Slot {
+        value: Val::Boolean(false),
+    }; 16];
+    let mut here = at;
+    for k in 0usize..16 {
+        let Value::Is(v) = values::read_value(tokens::token(line, here)) else {
+            return Values { slots, next: here };
+        };
+        slots[k] = Slot { value: v };
+        here = tokens::next(line, here);
+    }
+    Values { slots, next: here }
+}
 
 pub fn bad(out: &mut [u8]) -> usize {
     output::put_all(out, 0, b"bad line\n")
@@ -199,7 +222,7 @@ fn value_of(line: &[u8], at: usize, out: &mut [u8]) -> usize {
     if !tokens::is(tokens::token(line, at), b"(") {
         return bad(out);
     }
-    let list = values::read_values(line, tokens::next(line, at));
+    let list = read_values(line, tokens::next(line, at));
     let last = list.next;
     if !tokens::is(tokens::token(line, last), b")") {
         return bad(out);

@@ -10,7 +10,7 @@ use grammar::items::Unary;
 use grammar::values::Val;
 ghost use mathlib.Core.Path.{_≡_};
 ghost use Rattle.text.specs.Items.{letterOf, constantOf, variableOf, rawOf, longOf, symbolOf, wordAt, closesAt, wordsFrom, itemsFrom, expressionWords, expressionAt};
-ghost use lib.ListN.{length};
+ghost use lib.ListN.{length, take};
 ghost use lib.Seq.{sets};
 
 // What a token stands for: an item, or a word that is handed over as it is and may be no item's.
@@ -165,7 +165,9 @@ pub fn read_expression(line: &[u8], at: usize, words: &mut [u64]) -> Expression
 }
 
 // The first words, as many as there are of them.
-pub fn part(words: &[u64], n: usize) -> &[u64] {
+pub fn part(words: &[u64], n: usize) -> &[u64]
+    ensures { λ r. ⌜ now r ≡ take n (now (words .entry)) ⌝ }
+{
     if words.len() < n {
         return words;
     }

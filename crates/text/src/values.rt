@@ -4,7 +4,6 @@ use crate::numbers::Integer;
 use crate::numbers::Number;
 use crate::tokens;
 use grammar::values;
-use grammar::values::Slot;
 use grammar::values::Val;
 ghost use mathlib.Core.Path.{_≡_};
 ghost use Rattle.text.specs.Values.{integerValue, valueOf, kindOf};
@@ -36,28 +35,6 @@ pub fn read_value(token: &[u8]) -> Value
         return integer(numbers::read_integer(tokens::tail(token)));
     }
     Value::Bad
-}
-
-// Values, and where the token after them starts.
-pub struct Values {
-    pub slots: [Slot; 16],
-    pub next: usize,
-}
-
-// The values from a place on, 16 at most, up to a token that is none. The slots past them are false.
-pub fn read_values(line: &[u8], at: usize) -> Values {
-    let mut slots = [Slot {
-        value: Val::Boolean(false),
-    }; 16];
-    let mut here = at;
-    for k in 0usize..16 {
-        let Value::Is(v) = read_value(tokens::token(line, here)) else {
-            return Values { slots, next: here };
-        };
-        slots[k] = Slot { value: v };
-        here = tokens::next(line, here);
-    }
-    Values { slots, next: here }
 }
 
 // The word of a kind's letter.

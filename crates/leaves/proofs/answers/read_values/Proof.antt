@@ -3,8 +3,8 @@ use mathlib.Core.Path.{_≡_}
 use native.Mathlib.Omega.{arith}
 use lib.ListN.{length, length-set}
 use borrow.Author.Needs.{needs}
-use Rattle.text.proofs.values.read_values.Statement.{statement}
-use Rattle.text.proofs.values.read_values.Tie as tie
+use Rattle.leaves.proofs.answers.read_values.Statement.{statement}
+use Rattle.leaves.proofs.answers.read_values.Tie as tie
 
 abbrev Inv-loop : tie.InvT-loop
 Inv-loop line at slots₀ here₀ k₀ slots here k = (length slots ≡ 16) × (k ≤ 16)
