@@ -1,1 +1,2 @@
 pub mod FormedLaws
+pub mod SoundLaws

@@ -1,0 +1,145 @@
+-- What a table that is well formed says of its parts, as facts. The inner functions require them.
+use Prim.Native.Nat.{ℕ, _+_, _≤_, _<_}
+use mathlib.Core.Path.{_≡_}
+use mathlib.Core.Bool.{true}
+use mathlib.Core.List.{List}
+use Rattle.laws.specs.Below.{sumBelow}
+use Rattle.time.specs.Time.{inRange}
+use Rattle.grammar.specs.Values.{kindWord}
+use Rattle.grammar.specs.Draws.{drawsOf}
+use Rattle.grammar.specs.Typing.{typeOf}
+use Rattle.grammar.specs.declared.values.«Type».{«Type» as Kind}
+use Rattle.grammar.specs.declared.values.«Type».the-variants as Kind
+use Rattle.grammar.specs.declared.typing.Typed.the-variants.{Known}
+use Rattle.graph_tables.specs.Words.{Words, variableCount, clockCount, locationCount, actionCount, processCount, transitionCount, kindAt, kindsOf, valueAt, placeAt, invariantCount, actionKind, resetCount, effectCount, resetAt, effectVar, effectLength, keyOf, guardLength, limitCount, preOf, actionOf, postOf, clockOf, limitRange, guardItems, effectItems, epsilon}
+use Rattle.graph_tables.specs.Formed.{Counted, BoundsFit, effectDraws}
+
+-- variable v
+pub record VariableSound (t : List ℕ) (v : ℕ) : Type 0 where
+  -- its kind is 0 or 1
+  pub kind : kindAt t v < 2
+  -- its value has 32 bits
+  pub fits : valueAt t v < 4294967296
+  -- a boolean is 0 or 1
+  pub truth : kindAt t v ≡ 0 → valueAt t v < 2
+
+-- the n limits of group g
+pub record LimitsSound (t : List ℕ) (g n : ℕ) : Type 0 where
+  -- there is room for them
+  pub few : n ≤ 8
+  -- each is of a known clock
+  pub clock : (i : ℕ) → i < n → clockOf t g i < clockCount t
+  -- the times of its bounds fit
+  pub fit : (i : ℕ) → i < n → BoundsFit t g i
+  -- they stand in the order of their clocks
+  pub ordered : (i : ℕ) → i + 1 < n → clockOf t g i ≤ clockOf t g (i + 1)
+
+-- process p
+pub record ProcessSound (t : List ℕ) (p : ℕ) : Type 0 where
+  -- it starts at a known location
+  pub place : placeAt t p < locationCount t
+  -- whose invariants contain time 0
+  pub zero-inside : (i : ℕ) → i < invariantCount t (placeAt t p) → inRange (limitRange t (128 + placeAt t p) i) 0 ≡ true
+
+-- the resets of action a
+pub record ResetsSound (t : List ℕ) (a : ℕ) : Type 0 where
+  -- there is room for them
+  pub few : resetCount t a ≤ 16
+  -- each is of a known clock
+  pub clock : (i : ℕ) → i < resetCount t a → resetAt t a i < clockCount t
+  -- they stand in order
+  pub ordered : (i : ℕ) → i + 1 < resetCount t a → resetAt t a i ≤ resetAt t a (i + 1)
+
+-- expression e of action a: of an effect, or of a message that is sent
+pub record ExpressionSound (t : List ℕ) (a e : ℕ) : Type 0 where
+  -- there is room for its items
+  pub short : effectLength t a e ≤ 64
+  -- it has a kind
+  pub kind : Kind
+  pub typed : typeOf (kindsOf t) (effectItems t a e) ≡ Known kind
+
+-- effect e of action a
+pub record EffectSound (t : List ℕ) (a e : ℕ) : Type 0 where
+  -- it is of a known variable
+  pub var : effectVar t a e < variableCount t
+  -- its expression is typed
+  pub expression : ExpressionSound t a e
+  -- as the variable is
+  pub same : kindWord (expression .kind) ≡ kindAt t (effectVar t a e)
+
+-- plain action a
+pub record PlainSound (t : List ℕ) (a : ℕ) : Type 0 where
+  -- each effect is typed as its variable
+  pub effect : (e : ℕ) → e < effectCount t a → EffectSound t a e
+  -- a word has a bit for each draw
+  pub draws : sumBelow (effectCount t a) (effectDraws t a) ≤ 64
+
+-- send a
+pub record SendSound (t : List ℕ) (a : ℕ) : Type 0 where
+  -- it resets nothing
+  pub still : resetCount t a ≡ 0
+  -- a message has room for its values
+  pub few : effectCount t a ≤ 4
+  -- each expression is typed
+  pub expression : (e : ℕ) → e < effectCount t a → ExpressionSound t a e
+  -- a word has a bit for each draw
+  pub draws : sumBelow (effectCount t a) (effectDraws t a) ≤ 64
+
+-- receive a
+pub record ReceiveSound (t : List ℕ) (a : ℕ) : Type 0 where
+  -- it resets nothing
+  pub still : resetCount t a ≡ 0
+  -- a message has room for its values
+  pub few : effectCount t a ≤ 4
+  -- each value goes to a known variable
+  pub var : (e : ℕ) → e < effectCount t a → effectVar t a e < variableCount t
+
+-- action a
+pub record ActionSound (t : List ℕ) (a : ℕ) : Type 0 where
+  -- its kind is 0, 1 or 2
+  pub kind : actionKind t a < 3
+  -- its resets are sound, whatever its kind
+  pub resets : ResetsSound t a
+  -- there is room for its effects, or for the values of its message
+  pub few : effectCount t a ≤ 16
+  -- and what its kind says
+  pub plain : actionKind t a ≡ 0 → PlainSound t a
+  pub send : actionKind t a ≡ 1 → SendSound t a
+  pub receive : actionKind t a ≡ 2 → ReceiveSound t a
+
+-- the guard of transition k, which has no items where there is none
+pub record GuardSound (t : List ℕ) (k : ℕ) : Type 0 where
+  -- there is room for its items
+  pub short : guardLength t k ≤ 64
+  -- a guard is a boolean
+  pub typed : 0 < guardLength t k → typeOf (kindsOf t) (guardItems t k) ≡ Known Kind.Boolean
+  -- it draws nothing
+  pub no-draws : drawsOf (guardItems t k) ≡ 0
+
+-- transition k
+pub record TransitionSound (t : List ℕ) (k : ℕ) : Type 0 where
+  -- it goes from a known location
+  pub pre : preOf (keyOf t k) < locationCount t
+  -- to a known location
+  pub post : postOf (keyOf t k) < locationCount t
+  -- by the reserved action, else by a known one
+  pub action : (actionOf (keyOf t k) ≡ epsilon → ⊥) → actionOf (keyOf t k) < actionCount t
+  -- its guard is sound
+  pub guard : GuardSound t k
+  -- its limits are sound
+  pub limits : LimitsSound t k (limitCount t k)
+
+-- the whole table
+pub record Sound (t : List ℕ) : Type 0 where
+  -- it has its number of words
+  pub words : Words t
+  -- no count is above its size
+  pub counts : Counted t
+  -- each part below its count is sound
+  pub variable : (v : ℕ) → v < variableCount t → VariableSound t v
+  pub invariants : (l : ℕ) → l < locationCount t → LimitsSound t (128 + l) (invariantCount t l)
+  pub process : (p : ℕ) → p < processCount t → ProcessSound t p
+  pub action : (a : ℕ) → a < actionCount t → ActionSound t a
+  pub transition : (k : ℕ) → k < transitionCount t → TransitionSound t k
+  -- transitions stand in the order of their keys
+  pub ordered : (k : ℕ) → k + 1 < transitionCount t → keyOf t k ≤ keyOf t (k + 1)
