@@ -1,0 +1,2 @@
+pub mod BuildingLaws
+pub mod Theorems
