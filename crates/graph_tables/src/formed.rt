@@ -121,25 +121,6 @@ fn location_formed(t: &[u64], l: usize) -> bool
     limits_formed(t, 128 + l, inner::invariant_count(t, l))
 }
 
-fn zero_inside(t: &[u64], g: usize, i: usize) -> bool
-    requires { ⌜ Words (now t) × (g < 160) × (i < 8) × BoundsFit (now t) g i ⌝ }
-    ensures { λ r. ⌜ r ≡ zeroInside (now (t .entry)) g i ⌝ }
-{
-    inner::limit_range(t, g, i).contains(0)
-}
-
-fn all_zero_inside(t: &[u64], g: usize, n: usize) -> bool
-    requires { ⌜ Words (now t) × (g < 160) × (n ≤ 8) × ((i : ℕ) → i < n → BoundsFit (now t) g i) ⌝ }
-    ensures { λ r. ⌜ r ≡ allBelow n (zeroInside (now (t .entry)) g) ⌝ }
-{
-    for i in 0..n {
-        if !zero_inside(t, g, i) {
-            return false;
-        }
-    }
-    true
-}
-
 fn process_formed(t: &[u64], p: usize) -> bool
     requires { ⌜ Words (now t) × (p < 4) × (locationCount (now t) ≤ 32) × (allBelow (locationCount (now t)) (locationFormed (now t)) ≡ true) ⌝ }
     ensures { λ r. ⌜ r ≡ processFormed (now (t .entry)) p ⌝ }
@@ -148,7 +129,7 @@ fn process_formed(t: &[u64], p: usize) -> bool
     if inner::location_count(t) <= l {
         return false;
     }
-    all_zero_inside(t, 128 + l, inner::invariant_count(t, l))
+    inner::all_zero_inside(t, 128 + l, inner::invariant_count(t, l))
 }
 
 fn reset_before(t: &[u64], a: usize, i: usize) -> usize

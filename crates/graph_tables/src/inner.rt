@@ -3,10 +3,11 @@
 use time::Bound;
 use time::TimeRange;
 ghost use mathlib.Core.Path.{_≡_};
-ghost use Prim.Native.Nat.{_/_, _≤_, _<_};
+ghost use Prim.Native.Nat.{ℕ, _/_, _≤_, _<_};
 ghost use lib.ListN.{length};
 ghost use Rattle.graph_tables.specs.Words.{Words, variableCount, clockCount, locationCount, actionCount, processCount, transitionCount, kindAt, kindsOf, valueAt, placeAt, invariantCount, actionKind, resetCount, effectCount, resetAt, effectVar, effectLength, keyOf, guardLength, limitCount, clockOf, lowerOf, upperOf, boundOf, limitRange, guardItems, effectItems};
-ghost use Rattle.graph_tables.specs.Formed.{BoundsFit};
+ghost use Rattle.graph_tables.specs.Formed.{BoundsFit, zeroInside};
+ghost use Rattle.laws.specs.Below.{allBelow};
 
 pub fn variable_count(t: &[u64]) -> usize
     requires { ⌜ Words (now t) ⌝ }
@@ -212,4 +213,24 @@ pub fn effect_items(t: &[u64], a: usize, e: usize) -> &[u64]
     let from = 14122 + 64 * (32 * e + a);
     let to = from + effect_length(t, a, e);
     &t[from..to]
+}
+
+// Whether a limit of a group contains time 0, and whether all of them do.
+pub fn zero_inside(t: &[u64], g: usize, i: usize) -> bool
+    requires { ⌜ Words (now t) × (g < 160) × (i < 8) × BoundsFit (now t) g i ⌝ }
+    ensures { λ r. ⌜ r ≡ zeroInside (now (t .entry)) g i ⌝ }
+{
+    limit_range(t, g, i).contains(0)
+}
+
+pub fn all_zero_inside(t: &[u64], g: usize, n: usize) -> bool
+    requires { ⌜ Words (now t) × (g < 160) × (n ≤ 8) × ((i : ℕ) → i < n → BoundsFit (now t) g i) ⌝ }
+    ensures { λ r. ⌜ r ≡ allBelow n (zeroInside (now (t .entry)) g) ⌝ }
+{
+    for i in 0..n {
+        if !zero_inside(t, g, i) {
+            return false;
+        }
+    }
+    true
 }

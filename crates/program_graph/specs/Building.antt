@@ -5,15 +5,16 @@ use mathlib.Core.List.{List}
 use lib.Dec.{eqb, ltb}
 use lib.ListN.{length, set}
 use Rattle.laws.specs.Ladder.{unless}
+use Rattle.laws.specs.Below.{allBelow}
 use Rattle.grammar.specs.Values.{kindOf, kindWord}
 use Rattle.grammar.specs.Bits.{bitsOf}
 use Rattle.grammar.specs.declared.values.«Type».the-variants as Kind
 use Rattle.grammar.specs.declared.values.Val.{Val}
 use Rattle.grammar.specs.declared.values.Val.the-variants.{Boolean, Integer}
 use Rattle.graph_tables.specs.declared.refusals.Refusal.{Refusal}
-use Rattle.graph_tables.specs.declared.refusals.Refusal.the-variants.{BadState, TableFull, MissingVar, NoProcess}
-use Rattle.graph_tables.specs.Words.{variableCount, clockCount, locationCount, actionCount, processCount, kindAt}
-use Rattle.graph_tables.specs.Formed.{wellFormed}
+use Rattle.graph_tables.specs.declared.refusals.Refusal.the-variants.{BadState, TableFull, MissingVar, MissingLocation, Invariant, NoProcess}
+use Rattle.graph_tables.specs.Words.{variableCount, clockCount, locationCount, actionCount, processCount, kindAt, invariantCount}
+use Rattle.graph_tables.specs.Formed.{wellFormed, zeroInside}
 use Rattle.program_graph.specs.declared.answers.Placed.{Placed}
 use Rattle.program_graph.specs.declared.answers.Placed.the-variants as Placed
 use Rattle.program_graph.specs.declared.answers.Done.{Done}
@@ -78,3 +79,18 @@ unfoldable pub buildOf : List ℕ → Done
 buildOf t =
     unless (wellFormed t true) (Done.Refused BadState)
     (unless (ltb 0 (processCount t)) (Done.Refused NoProcess) Done.Accepted)
+
+abbrev pub undone : Refusal → List ℕ → Outcome Done
+undone r t = record { answer = Done.Refused r; table = t }
+
+abbrev pub doneWith : List ℕ → Outcome Done
+doneWith t = record { answer = Done.Accepted; table = t }
+
+-- Process: 3, then 9 if an invariant excludes time 0.
+unfoldable pub newProcessOf : List ℕ → ℕ → Outcome Done
+newProcessOf t l =
+    unless (wellFormed t true) (undone BadState t)
+    (unless (ltb l (locationCount t)) (undone MissingLocation t)
+    (unless (allBelow (invariantCount t l) (zeroInside t (128 + l))) (undone Invariant t)
+    (unless (ltb (processCount t) 4) (undone TableFull t)
+    (doneWith (set (set t (38 + processCount t) l) 4 (processCount t + 1))))))

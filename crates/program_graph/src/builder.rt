@@ -6,12 +6,13 @@ use grammar::bits;
 use grammar::values::Type;
 use grammar::values::Val;
 use graph_tables::formed;
+use graph_tables::ids::Location;
 use graph_tables::ids::Var;
 use graph_tables::inner;
 use graph_tables::refusals::Refusal;
 use graph_tables::sizes;
 ghost use mathlib.Core.Path.{_≡_};
-ghost use Rattle.program_graph.specs.Building.{payloadOf, emptyOf, newVarOf, varTypeOf, newClockOf, newActionOf, newLocationOf, buildOf};
+ghost use Rattle.program_graph.specs.Building.{payloadOf, emptyOf, newVarOf, varTypeOf, newClockOf, newActionOf, newLocationOf, buildOf, newProcessOf};
 
 // The value of a variable at the start, as 32 bits.
 fn payload(v: Val) -> u64
@@ -131,5 +132,29 @@ pub fn build(t: &[u64]) -> Done
     if inner::process_count(t) == 0 {
         return Done::Refused(Refusal::NoProcess);
     }
+    Done::Accepted
+}
+
+// A process that starts at a location. One location may hold several.
+pub fn new_process(t: &mut [u64], location: Location) -> Done
+    ensures { λ r. ⌜ (r ≡ newProcessOf (now (t .entry)) (location .0) .answer) × (now (t .exit) ≡ newProcessOf (now (t .entry)) (location .0) .table) ⌝ }
+{
+    if !formed::well_formed(t, true) {
+        return Done::Refused(Refusal::BadState);
+    }
+    let l = location.0 as usize;
+    if inner::location_count(t) <= l {
+        return Done::Refused(Refusal::MissingLocation);
+    }
+    let k = inner::invariant_count(t, l);
+    if !inner::all_zero_inside(t, 128 + l, k) {
+        return Done::Refused(Refusal::Invariant);
+    }
+    let n = inner::process_count(t);
+    if sizes::PROCESSES <= n {
+        return Done::Refused(Refusal::TableFull);
+    }
+    t[38 + n] = l as u64;
+    t[4] = (n as u64) + 1;
     Done::Accepted
 }

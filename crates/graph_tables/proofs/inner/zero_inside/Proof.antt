@@ -4,8 +4,8 @@ use Rattle.time.specs.Time.{inRange}
 use Prim.Native.Nat.{_-_}
 use mathlib.Core.Path.{ap, _∙_}
 use borrow.Author.Needs.{needs}
-use Rattle.graph_tables.proofs.formed.zero_inside.Statement.{statement}
-use Rattle.graph_tables.proofs.formed.zero_inside.Tie as tie
+use Rattle.graph_tables.proofs.inner.zero_inside.Statement.{statement}
+use Rattle.graph_tables.proofs.inner.zero_inside.Tie as tie
 
 returns : tie.Need-returns
 unfolding zeroInside

@@ -7,8 +7,8 @@ use Prim.Native.Nat.{_-_, _≤_}
 use mathlib.Core.Path.{_≡_, sym}
 use native.Mathlib.Omega.{arith}
 use borrow.Author.Needs.{needs}
-use Rattle.graph_tables.proofs.formed.all_zero_inside.Statement.{statement}
-use Rattle.graph_tables.proofs.formed.all_zero_inside.Tie as tie
+use Rattle.graph_tables.proofs.inner.all_zero_inside.Statement.{statement}
+use Rattle.graph_tables.proofs.inner.all_zero_inside.Tie as tie
 
 abbrev Inv-loop : tie.InvT-loop
 Inv-loop t g n i₀ i = (i ≤ n) × (allBelow i (zeroInside t g) ≡ true)
