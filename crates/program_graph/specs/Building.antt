@@ -1,7 +1,7 @@
 -- Building one graph. Each call gives an answer and the table afterwards; a refusal leaves every word.
 use Prim.Native.Nat.{ℕ, _+_, _*_}
-use mathlib.Core.Bool.{true, false, cond}
-use mathlib.Core.List.{List}
+use mathlib.Core.Bool.{true, false, not, cond}
+use mathlib.Core.List.{List, [], _∷_}
 use lib.Dec.{eqb, ltb}
 use lib.ListN.{length, set}
 use Rattle.laws.specs.Ladder.{unless}
@@ -11,9 +11,10 @@ use Rattle.grammar.specs.declared.values.«Type».the-variants as Kind
 use Rattle.grammar.specs.declared.values.Val.{Val}
 use Rattle.grammar.specs.declared.values.Val.the-variants.{Boolean, Integer}
 use Rattle.graph_tables.specs.declared.refusals.Refusal.{Refusal}
-use Rattle.graph_tables.specs.declared.refusals.Refusal.the-variants.{BadState, TableFull, MissingVar, NoProcess}
-use Rattle.graph_tables.specs.Words.{variableCount, clockCount, locationCount, actionCount, processCount, kindAt}
+use Rattle.graph_tables.specs.declared.refusals.Refusal.the-variants.{BadState, TableFull, MissingAction, MissingClock, MissingVar, NoEffects, EffectOnSend, EffectOnReceive, NoProcess}
+use Rattle.graph_tables.specs.Words.{variableCount, clockCount, locationCount, actionCount, processCount, kindAt, actionKind, resetCount, resetAt, epsilon}
 use Rattle.graph_tables.specs.Formed.{wellFormed}
+use Rattle.program_graph.specs.Rows.{placeOf, insertedWords}
 use Rattle.program_graph.specs.declared.answers.Placed.{Placed}
 use Rattle.program_graph.specs.declared.answers.Placed.the-variants as Placed
 use Rattle.program_graph.specs.declared.answers.Done.{Done}
@@ -78,3 +79,37 @@ unfoldable pub buildOf : List ℕ → Done
 buildOf t =
     unless (wellFormed t true) (Done.Refused BadState)
     (unless (ltb 0 (processCount t)) (Done.Refused NoProcess) Done.Accepted)
+
+-- ---- resets
+abbrev pub notDone : Refusal → List ℕ → Outcome Done
+notDone r t = record { answer = Done.Refused r; table = t }
+
+abbrev pub doneWith : List ℕ → Outcome Done
+doneWith t = record { answer = Done.Accepted; table = t }
+
+-- an action that takes resets and effects: 1 where there is none, 11 for a send, 12 for a receive
+abbrev pub onPlain : List ℕ → ℕ → Outcome Done → Outcome Done
+onPlain t a rest =
+    unless (ltb a (actionCount t)) (notDone MissingAction t)
+    (unless (not (eqb (actionKind t a) 1)) (notDone EffectOnSend t)
+    (unless (not (eqb (actionKind t a) 2)) (notDone EffectOnReceive t) rest))
+
+-- a clock among the resets of action a, before the first whose number is greater
+abbrev pub resetPlace : List ℕ → ℕ → ℕ → ℕ
+resetPlace t a clock = placeOf (resetAt t a) (resetCount t a) clock
+
+abbrev pub withReset : List ℕ → ℕ → ℕ → List ℕ
+withReset t a clock =
+    set (insertedWords t (77 + 51 * a + resetPlace t a clock) (77 + 51 * a + resetCount t a) (clock ∷ [])) (75 + 51 * a) (resetCount t a + 1)
+
+-- the clock is known
+unfoldable pub addKnownReset : List ℕ → ℕ → ℕ → Outcome Done
+addKnownReset t a clock = onPlain t a (unless (ltb (resetCount t a) 16) (notDone TableFull t) (doneWith (withReset t a clock)))
+
+-- 10, 2, 1, then 11 or 12, then 28
+unfoldable pub addResetOf : List ℕ → ℕ → ℕ → Outcome Done
+addResetOf t a clock =
+    unless (wellFormed t true) (notDone BadState t)
+    (unless (not (eqb a epsilon)) (notDone NoEffects t)
+    (unless (ltb clock (clockCount t)) (notDone MissingClock t)
+    (addKnownReset t a clock)))
