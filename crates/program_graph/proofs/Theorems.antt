@@ -1,5 +1,5 @@
 -- What building a graph keeps.
-use Prim.Native.Nat.{ℕ, _+_}
+use Prim.Native.Nat.{ℕ}
 use mathlib.Core.Path.{_≡_, refl}
 use mathlib.Core.Bool.{Bool, true, false}
 use mathlib.Core.List.{List, [], _∷_}
@@ -11,12 +11,13 @@ use Rattle.laws.specs.Ladder.{unless}
 use Rattle.laws.specs.Below.{_and_, allBelow}
 use Rattle.grammar.specs.declared.values.Val.{Val}
 use Rattle.graph_tables.specs.declared.refusals.Refusal.{Refusal}
-use Rattle.graph_tables.specs.declared.refusals.Refusal.the-variants.{BadState, TableFull, MissingLocation, Invariant}
-use Rattle.graph_tables.specs.Words.{Words, variableCount, clockCount, locationCount, actionCount, processCount, invariantCount}
-use Rattle.graph_tables.specs.Formed.{wellFormed, countsFormed, startedOf, partsFormed, zeroInside}
+use Rattle.graph_tables.specs.declared.refusals.Refusal.the-variants.{BadState, TableFull, MissingLocation, Invariant, MissingAction, MissingClock, NoEffects, EffectOnSend, EffectOnReceive}
+use Rattle.graph_tables.specs.Words.{Words, variableCount, clockCount, locationCount, actionCount}
+use Rattle.graph_tables.specs.Formed.{wellFormed, countsFormed, startedOf, partsFormed}
 use Rattle.program_graph.specs.declared.answers.Placed.the-variants.{Refused}
+use Rattle.program_graph.specs.declared.answers.Done.{Done}
 use Rattle.program_graph.specs.declared.answers.Done.the-variants as Done
-use Rattle.program_graph.specs.Building.{refusedWith, placedAt, emptyOf, newVarOf, newClockOf, newActionOf, newLocationOf, undone, doneWith, newProcessOf}
+use Rattle.program_graph.specs.Building.{Outcome, refusedWith, placedAt, emptyOf, newVarOf, newClockOf, newActionOf, newLocationOf, newProcessOf, notDone, doneWith, withReset, addKnownReset, addResetOf}
 
 -- The empty graph is well formed for building.
 pub empty-formed : (t : List ℕ) → Words t → wellFormed (emptyOf t .table) true ≡ true
@@ -58,17 +59,28 @@ module _ (t : List ℕ) (r : Refusal) where
   unfolding newLocationOf
   location-refused e = kept t (wellFormed t true) (ltb (locationCount t) 32) _ _ r e
 
--- the same of a ladder of four
-kept-four : (t : List ℕ) (a b c d : Bool) (after : List ℕ) (r : Refusal)
-    → unless a (undone BadState t) (unless b (undone MissingLocation t) (unless c (undone Invariant t) (unless d (undone TableFull t) (doneWith after)))) .answer ≡ Done.Refused r
-    → unless a (undone BadState t) (unless b (undone MissingLocation t) (unless c (undone Invariant t) (unless d (undone TableFull t) (doneWith after)))) .table ≡ t
-unfolding unless
-kept-four t false b c d after r e = refl
-kept-four t true false c d after r e = refl
-kept-four t true true false d after r e = refl
-kept-four t true true true false after r e = refl
-kept-four t true true true true after r e = let z : _≡_ {A = ℕ} 0 1 = cc in absurd (omega arith)
+-- the same of a ladder whose answer is done or a refusal, rung by rung
+abbrev Keeps : List ℕ → Outcome Done → Type 0
+Keeps t o = (r : Refusal) → o .answer ≡ Done.Refused r → o .table ≡ t
 
+rung : (t : List ℕ) (b : Bool) (q : Refusal) (o : Outcome Done) → Keeps t o → Keeps t (unless b (notDone q t) o)
+unfolding unless
+rung t true q o k r e = k r e
+rung t false q o k r e = refl
+
+accepted : (t after : List ℕ) → Keeps t (doneWith after)
+accepted t after r e = let z : _≡_ {A = ℕ} 0 1 = cc in absurd (omega arith)
+
+-- A refused process leaves every word.
 pub process-refused : (t : List ℕ) (l : ℕ) (r : Refusal) → newProcessOf t l .answer ≡ Done.Refused r → newProcessOf t l .table ≡ t
 unfolding newProcessOf
-process-refused t l r e = kept-four t (wellFormed t true) (ltb l (locationCount t)) (allBelow (invariantCount t l) (zeroInside t (128 + l))) (ltb (processCount t) 4) _ r e
+process-refused t l = rung t _ BadState _ (rung t _ MissingLocation _ (rung t _ Invariant _ (rung t _ TableFull _ (accepted t _))))
+
+-- A refused reset leaves every word.
+pub reset-refused : (t : List ℕ) (a clock : ℕ) (r : Refusal) → addResetOf t a clock .answer ≡ Done.Refused r → addResetOf t a clock .table ≡ t
+unfolding addResetOf addKnownReset
+reset-refused t a clock =
+    rung t _ BadState _
+    (rung t _ NoEffects _
+    (rung t _ MissingClock _
+    (rung t _ MissingAction _ (rung t _ EffectOnSend _ (rung t _ EffectOnReceive _ (rung t _ TableFull _ (accepted t (withReset t a clock))))))))

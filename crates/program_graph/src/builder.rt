@@ -2,17 +2,23 @@
 use crate::answers::Done;
 use crate::answers::Placed;
 use crate::answers::VarType;
+use crate::inner::open_gap;
 use grammar::bits;
 use grammar::values::Type;
 use grammar::values::Val;
 use graph_tables::formed;
+use graph_tables::ids::Action;
+use graph_tables::ids::Clock;
 use graph_tables::ids::Location;
 use graph_tables::ids::Var;
 use graph_tables::inner;
 use graph_tables::refusals::Refusal;
 use graph_tables::sizes;
 ghost use mathlib.Core.Path.{_≡_};
-ghost use Rattle.program_graph.specs.Building.{payloadOf, emptyOf, newVarOf, varTypeOf, newClockOf, newActionOf, newLocationOf, buildOf, newProcessOf};
+ghost use Prim.Native.Nat.{_≤_, _<_};
+ghost use Rattle.graph_tables.specs.Words.{Words, resetCount};
+ghost use Rattle.graph_tables.specs.Sound.{Sound};
+ghost use Rattle.program_graph.specs.Building.{payloadOf, emptyOf, newVarOf, varTypeOf, newClockOf, newActionOf, newLocationOf, newProcessOf, buildOf, resetPlace, withReset, addKnownReset, addResetOf};
 
 // The value of a variable at the start, as 32 bits.
 fn payload(v: Val) -> u64
@@ -122,19 +128,6 @@ pub fn new_location(t: &mut [u64]) -> Placed
     Placed::At(n as u32)
 }
 
-// Whether the graph can be run: it has a process.
-pub fn build(t: &[u64]) -> Done
-    ensures { λ r. ⌜ r ≡ buildOf (now (t .entry)) ⌝ }
-{
-    if !formed::well_formed(t, true) {
-        return Done::Refused(Refusal::BadState);
-    }
-    if inner::process_count(t) == 0 {
-        return Done::Refused(Refusal::NoProcess);
-    }
-    Done::Accepted
-}
-
 // A process that starts at a location. One location may hold several.
 pub fn new_process(t: &mut [u64], location: Location) -> Done
     ensures { λ r. ⌜ (r ≡ newProcessOf (now (t .entry)) (location .0) .answer) × (now (t .exit) ≡ newProcessOf (now (t .entry)) (location .0) .table) ⌝ }
@@ -157,4 +150,86 @@ pub fn new_process(t: &mut [u64], location: Location) -> Done
     t[38 + n] = l as u64;
     t[4] = (n as u64) + 1;
     Done::Accepted
+}
+
+// Whether the graph can be run: it has a process.
+pub fn build(t: &[u64]) -> Done
+    ensures { λ r. ⌜ r ≡ buildOf (now (t .entry)) ⌝ }
+{
+    if !formed::well_formed(t, true) {
+        return Done::Refused(Refusal::BadState);
+    }
+    if inner::process_count(t) == 0 {
+        return Done::Refused(Refusal::NoProcess);
+    }
+    Done::Accepted
+}
+
+// The first reset of an action that is above the clock.
+fn reset_place(t: &[u64], a: usize, clock: usize) -> usize
+    requires { ⌜ Words (now t) × (a < 32) × (resetCount (now t) a ≤ 16) ⌝ }
+    ensures { λ r. ⌜ r ≡ resetPlace (now (t .entry)) a clock ⌝ }
+    ensures { λ r. ⌜ r ≤ resetCount (now (t .entry)) a ⌝ }
+{
+    let n = inner::reset_count(t, a);
+    let mut i = 0;
+    while i < n {
+        if clock < inner::reset_at(t, a, i) {
+            return i;
+        }
+        i += 1;
+    }
+    n
+}
+
+// The later resets move up by one.
+fn put_reset(t: &mut [u64], a: usize, clock: usize)
+    requires { ⌜ Words (now t) × (a < 32) × (resetCount (now t) a < 16) ⌝ }
+    ensures { λ _. ⌜ now (t .exit) ≡ withReset (now (t .entry)) a clock ⌝ }
+{
+    let n = inner::reset_count(t, a);
+    let p = reset_place(t, a, clock);
+    open_gap(t, 77 + 51 * a + p, 77 + 51 * a + n, 1);
+    t[77 + 51 * a + p] = clock as u64;
+    t[75 + 51 * a] = (n as u64) + 1;
+}
+
+// The clock is known.
+fn add_known_reset(t: &mut [u64], a: usize, clock: usize) -> Done
+    requires { ⌜ Sound (now t) ⌝ }
+    ensures { λ r. ⌜ (r ≡ addKnownReset (now (t .entry)) a clock .answer) × (now (t .exit) ≡ addKnownReset (now (t .entry)) a clock .table) ⌝ }
+{
+    if inner::action_count(t) <= a {
+        return Done::Refused(Refusal::MissingAction);
+    }
+    let kind = inner::action_kind(t, a);
+    if kind == 1 {
+        return Done::Refused(Refusal::EffectOnSend);
+    }
+    if kind == 2 {
+        return Done::Refused(Refusal::EffectOnReceive);
+    }
+    if sizes::RESETS <= inner::reset_count(t, a) {
+        return Done::Refused(Refusal::TableFull);
+    }
+    put_reset(t, a, clock);
+    Done::Accepted
+}
+
+// A clock among the resets of an action, in the order of their numbers.
+pub fn add_reset(t: &mut [u64], action: Action, clock: Clock) -> Done
+    ensures { λ r. ⌜ (r ≡ addResetOf (now (t .entry)) (action .0) (clock .0) .answer) × (now (t .exit) ≡ addResetOf (now (t .entry)) (action .0) (clock .0) .table) ⌝ }
+{
+    if !formed::well_formed(t, true) {
+        return Done::Refused(Refusal::BadState);
+    }
+    let a = action.0;
+    if a == Action::EPSILON.0 {
+        return Done::Refused(Refusal::NoEffects);
+    }
+    let k = clock.0 as usize;
+    if inner::clock_count(t) <= k {
+        return Done::Refused(Refusal::MissingClock);
+    }
+    add_known_reset(t, a as usize, k)
 }

@@ -4,7 +4,7 @@ use Rattle.laws.proofs.Ladder.{passed, stopped}
 use mathlib.Core.Bool.{true}
 use Rattle.program_graph.proofs.BuildingLaws.{parts}
 use Rattle.graph_tables.specs.declared.refusals.Refusal.the-variants.{BadState, TableFull, MissingLocation, Invariant}
-use Rattle.program_graph.specs.Building.{undone, doneWith, newProcessOf}
+use Rattle.program_graph.specs.Building.{notDone, doneWith, newProcessOf}
 use Rattle.graph_tables.specs.Formed.{wellFormed}
 use Rattle.graph_tables.specs.Words.{locationCount}
 use Rattle.graph_tables.specs.Sound.{Sound}
@@ -31,7 +31,7 @@ returns : tie.Need-returns
 unfolding newProcessOf
 returns c =
     let s = c .before .before .before .before in
-    parts (stopped (undone BadState (s .args .t .now)) _ (failed (c .before .well-formed .ensures) (c .if1 .taken)))
+    parts (stopped (notDone BadState (s .args .t .now)) _ (failed (c .before .well-formed .ensures) (c .if1 .taken)))
 
 location-count-requires : tie.Need-location-count-requires
 location-count-requires c κs = facts (c .before .before) .words
@@ -42,7 +42,7 @@ returns-2 c =
     let n = c .before in
     let w = n .before .before .before in
     let t = w .before .before .before .before .args .t .now in
-    parts (passed (undone BadState t) (formed w) (stopped (undone MissingLocation t) _ (le-ltb _ _ (rw (n .location-count .ensures) at (c .if2 .taken)))))
+    parts (passed (notDone BadState t) (formed w) (stopped (notDone MissingLocation t) _ (le-ltb _ _ (rw (n .location-count .ensures) at (c .if2 .taken)))))
 
 invariant-count-requires : tie.Need-invariant-count-requires
 invariant-count-requires c κs =
@@ -72,9 +72,9 @@ returns-3 c =
     let w = e .before .before .before .before in
     let t = w .before .before .before .before .args .t .now in
     parts
-    (passed (undone BadState t) (formed w)
-    (passed (undone MissingLocation t) (lt-ltb _ _ (small e))
-    (stopped (undone Invariant t) _ (rw (k .invariant-count .ensures) at (failed (z .all-zero-inside .ensures) (c .if3 .taken))))))
+    (passed (notDone BadState t) (formed w)
+    (passed (notDone MissingLocation t) (lt-ltb _ _ (small e))
+    (stopped (notDone Invariant t) _ (rw (k .invariant-count .ensures) at (failed (z .all-zero-inside .ensures) (c .if3 .taken))))))
 
 process-count-requires : tie.Need-process-count-requires
 process-count-requires c κs =
@@ -93,10 +93,10 @@ returns-4 c =
     let w = e .before .before .before .before in
     let t = w .before .before .before .before .args .t .now in
     parts
-    (passed (undone BadState t) (formed w)
-    (passed (undone MissingLocation t) (lt-ltb _ _ (small e))
-    (passed (undone Invariant t) (rw (k .invariant-count .ensures) at (held (z .all-zero-inside .ensures) (g .if3 .left)))
-    (stopped (undone TableFull t) _ (le-ltb _ _ (rw (n .process-count .ensures) at (c .if4 .taken)))))))
+    (passed (notDone BadState t) (formed w)
+    (passed (notDone MissingLocation t) (lt-ltb _ _ (small e))
+    (passed (notDone Invariant t) (rw (k .invariant-count .ensures) at (held (z .all-zero-inside .ensures) (g .if3 .left)))
+    (stopped (notDone TableFull t) _ (le-ltb _ _ (rw (n .process-count .ensures) at (c .if4 .taken)))))))
 
 slice-write-t : tie.Need-slice-write-t
 slice-write-t c =
@@ -120,10 +120,10 @@ returns-5 c =
     let s = w .before .before .before .before in
     let t = s .args .t .now in
     parts
-    (passed (undone BadState t) (formed w)
-    (passed (undone MissingLocation t) (lt-ltb _ _ (small e))
-    (passed (undone Invariant t) (rw (k .invariant-count .ensures) at (held (z .all-zero-inside .ensures) (g .if3 .left)))
-    (passed (undone TableFull t) (lt-ltb _ _ (rw (n .process-count .ensures) at (c .if4 .left)))
+    (passed (notDone BadState t) (formed w)
+    (passed (notDone MissingLocation t) (lt-ltb _ _ (small e))
+    (passed (notDone Invariant t) (rw (k .invariant-count .ensures) at (held (z .all-zero-inside .ensures) (g .if3 .left)))
+    (passed (notDone TableFull t) (lt-ltb _ _ (rw (n .process-count .ensures) at (c .if4 .left)))
     (ap (λ (m : ℕ). doneWith (set (set t (38 + m) (s .args .location .0)) 4 (m + 1))) (n .process-count .ensures))))))
 
 pub new-process-spec : {M : Type 1} → statement M
