@@ -16,7 +16,7 @@ use Rattle.grammar.specs.Typing.{Kinded, of, ill, takes1, takes2, alike,
 use Rattle.grammar.specs.Inner.{rowOf, kindedWord, operandKind}
 use Rattle.grammar.specs.declared.values.«Type».{«Type» as Kind}
 use Rattle.grammar.specs.declared.values.«Type».the-variants.{Boolean, Integer}
-use Rattle.grammar.specs.declared.typing.Typed.the-variants.{Known, TableFull}
+use Rattle.grammar.specs.declared.typing.Typed.the-variants.{Known, TooDeep}
 use Rattle.grammar.proofs.ItemLaws.{high, operand-any, low-any}
 
 pub kinded-ill : (n : ℕ) → (n ≡ 0 → ⊥) → (n ≡ 1 → ⊥) → kindedAt n ≡ ill
@@ -72,13 +72,11 @@ operand-word kinds w h =
     ∙ ap (λ (r : Read). made (kindStep kinds r) ill ill) (sym (high w h))
 
 -- a kind is known, if no more than 16 operands waited
-pub judged-deep : (n most : ℕ) → n ≤ 1 → 16 < most → TableFull ≡ judged (gives (kindedAt n)) most
-judged-deep zero most h d = stopped TableFull (Known Boolean) (lt-leb most 16 d)
-judged-deep (suc zero) most h d = stopped TableFull (Known Integer) (lt-leb most 16 d)
-judged-deep (suc (suc n)) most h d = absurd (omega arith)
+pub judged-deep : (k : Kind) (most : ℕ) → 16 < most → TooDeep k ≡ judged (gives (of k)) most
+judged-deep k most d = stopped (TooDeep k) (Known k) (lt-leb most 16 d)
 
 pub judged-known : (k : Kind) (most : ℕ) → most ≤ 16 → Known k ≡ judged (gives (of k)) most
-judged-known k most d = passed TableFull (le-leb most 16 d) refl
+judged-known k most d = passed (TooDeep k) (le-leb most 16 d) refl
 
 -- the tables of the code
 abbrev wants : ℕ

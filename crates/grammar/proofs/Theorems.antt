@@ -28,7 +28,7 @@ use Rattle.grammar.specs.declared.items.Binary.the-variants.{And, Or, Ad
 use Rattle.grammar.specs.declared.items.Item.{Item}
 use Rattle.grammar.specs.declared.items.Item.the-variants as Item
 use Rattle.grammar.specs.declared.typing.Typed.{Typed}
-use Rattle.grammar.specs.declared.typing.Typed.the-variants.{Known, TableFull}
+use Rattle.grammar.specs.declared.typing.Typed.the-variants.{Known, TableFull, TooDeep}
 use Rattle.grammar.specs.declared.evaluation.Evaluated.{Evaluated}
 use Rattle.grammar.specs.declared.evaluation.Evaluated.the-variants.{NoValue}
 use Rattle.grammar.proofs.BitLaws.{bits-small, from-bits-of}
@@ -45,14 +45,20 @@ record Found (kinds ws : List ℕ) (k : Kind) : Type 0 where
   run : runOf (kindSteps kinds ws) [] ≡ gives (of k)
 
 -- a ladder that ends in a kind was climbed
-climbed : (t : Bool) (rest : Typed) (k : Kind) → unless t TableFull rest ≡ Known k → (t ≡ true) × (rest ≡ Known k)
+climbed : (t : Bool) (refused rest : Typed) (k : Kind) → (refused ≡ Known k → ⊥) → unless t refused rest ≡ Known k → (t ≡ true) × (rest ≡ Known k)
 unfolding unless
-climbed true rest k e = (refl, e)
-climbed false rest k e = let z : _≡_ {A = ℕ} 0 1 = cc in absurd (omega arith)
+climbed true refused rest k not e = (refl, e)
+climbed false refused rest k not e = absurd (not e)
+
+not-full : (k : Kind) → TableFull ≡ Known k → ⊥
+not-full k e = let z : _≡_ {A = ℕ} 0 1 = cc in absurd (omega arith)
+
+not-deep : (j k : Kind) → TooDeep j ≡ Known k → ⊥
+not-deep j k e = let z : _≡_ {A = ℕ} 0 1 = cc in absurd (omega arith)
 
 judged-known : (r : Ran Kinded) (deep : ℕ) (k : Kind) → judged r deep ≡ Known k → (deep ≤ 16) × (r ≡ gives (of k))
 judged-known (gives (of j)) deep k e =
-    let c = climbed (leb deep 16) (Known j) k e in
+    let c = climbed (leb deep 16) (TooDeep j) (Known j) k (not-deep j k) e in
     let f : Known j ≡ Known k = c .1 in
     (leb-true deep 16 (c .0), cc)
 judged-known (gives ill) deep k e = let z : _≡_ {A = ℕ} 0 1 = cc in absurd (omega arith)
@@ -61,7 +67,7 @@ judged-known stuck deep k e = let z : _≡_ {A = ℕ} 0 1 = cc in absurd (omega 
 found : (kinds ws : List ℕ) (k : Kind) → typeOf kinds ws ≡ Known k → Found kinds ws k
 unfolding typeOf
 found kinds ws k e =
-    let c = climbed (leb (length ws) 64) (judged (runOf (kindSteps kinds ws) []) (deepest ws 0)) k e in
+    let c = climbed (leb (length ws) 64) TableFull (judged (runOf (kindSteps kinds ws) []) (deepest ws 0)) k (not-full k) e in
     let j = judged-known (runOf (kindSteps kinds ws) []) (deepest ws 0) k (c .1) in
     record { short = leb-true (length ws) 64 (c .0); shallow = j .0; run = j .1 }
 

@@ -89,6 +89,6 @@ examples =
     (gives (kind (Variable 2 ∷ [])) IllTyped
     (gives (typeOf [] (replicate 65 0)) TableFull
     (gives (kind (replicate 16 Draw ++ replicate 15 (Binary And))) (Typed.Known Kind.Boolean)
-    (gives (kind (replicate 17 Draw ++ replicate 16 (Binary And))) TableFull
+    (gives (kind (replicate 17 Draw ++ replicate 16 (Binary And))) (Typed.TooDeep Kind.Boolean)
     (gives (kind (replicate 17 Draw ++ replicate 15 (Binary And))) IllTyped
     end))))))))))))))))))))))))))))))))))

@@ -17,13 +17,14 @@ use Rattle.grammar.specs.declared.items.Binary.{Binary}
 use Rattle.grammar.specs.declared.items.Binary.the-variants.{And, Or, Add, Subtract, Multiply, Divide, Remainder, Equal, Less, LessOrEqual}
 use Rattle.grammar.specs.declared.items.Item.the-variants as Item
 use Rattle.grammar.specs.declared.typing.Typed.{Typed}
-use Rattle.grammar.specs.declared.typing.Typed.the-variants.{Known, IllTyped, TableFull}
+use Rattle.grammar.specs.declared.typing.Typed.the-variants.{Known, IllTyped, TableFull, TooDeep}
 
 -- The number of each answer.
 abbrev pub numberOf : Typed → ℕ
 numberOf (Known k) = 0
 numberOf IllTyped = 6
 numberOf TableFull = 28
+numberOf (TooDeep k) = 28
 
 -- The kind of an operand, or that it is ill-typed.
 pub data Kinded : Type 0 where
@@ -90,9 +91,9 @@ unfoldable pub kindSteps : List ℕ → List ℕ → List (Step Kinded)
 kindSteps kinds [] = []
 kindSteps kinds (w ∷ ws) = kindStep kinds (itemOf w) ∷ kindSteps kinds ws
 
--- a run that gives a kind, if no more than 16 operands waited
+-- a run that gives a kind, and whether more than 16 operands waited
 abbrev pub judged : Ran Kinded → ℕ → Typed
-judged (gives (of k)) deep = unless (leb deep 16) TableFull (Known k)
+judged (gives (of k)) deep = unless (leb deep 16) (TooDeep k) (Known k)
 judged (gives ill) deep = IllTyped
 judged stuck deep = IllTyped
 

@@ -9,15 +9,17 @@ ghost use lib.Dec.{eqb};
 ghost use lib.ListN.{length};
 ghost use Rattle.grammar.specs.Items.{itemOf, operandOf, takesOf, deepest};
 ghost use Rattle.grammar.specs.Run.{made, gives, runOf};
-ghost use Rattle.grammar.specs.Typing.{numberOf, ill, kindedAt, variableKind, kindStep, kindSteps, judged, typeOf};
+ghost use Rattle.grammar.specs.Typing.{numberOf, of, ill, kindedAt, variableKind, kindStep, kindSteps, judged, typeOf};
 ghost use Rattle.grammar.specs.Inner.{rowOf, kindedWord, operandKind};
 
 pub enum Typed {
     Known(Type),
     // 6
     IllTyped,
-    // 28
+    // 28: it has too many items.
     TableFull,
+    // 28, and last: it has this kind, but too many operands wait.
+    TooDeep(Type),
 }
 
 impl Typed {
@@ -29,6 +31,7 @@ impl Typed {
             Typed::Known(_) => 0,
             Typed::IllTyped => 6,
             Typed::TableFull => 28,
+            Typed::TooDeep(_) => 28,
         }
     }
 }
@@ -158,18 +161,26 @@ fn larger(a: usize, b: usize) -> usize
     a
 }
 
-// An expression that is well typed: too many operands waited, or its kind.
+fn kind_named(k: u8) -> Type
+    requires { ⌜ k ≤ 1 ⌝ }
+    ensures { λ r. ⌜ kindedAt k ≡ of r ⌝ }
+{
+    if k == INTEGER {
+        return Type::Integer;
+    }
+    Type::Boolean
+}
+
+// An expression that is well typed: too many operands waited, or not.
 fn judge(most: usize, k: u8) -> Typed
     requires { ⌜ k ≤ 1 ⌝ }
     ensures { λ r. ⌜ r ≡ judged (gives (kindedAt k)) most ⌝ }
 {
+    let kind = kind_named(k);
     if MOST_OPERANDS < most {
-        return Typed::TableFull;
+        return Typed::TooDeep(kind);
     }
-    if k == INTEGER {
-        return Typed::Known(Type::Integer);
-    }
-    Typed::Known(Type::Boolean)
+    Typed::Known(kind)
 }
 
 // The array has a spare slot, which is read and not used where an operation takes one operand. Only operands can make

@@ -15,7 +15,7 @@ use Rattle.grammar.specs.Typing.{typeOf}
 use Rattle.grammar.specs.declared.values.«Type».{«Type» as Kind}
 use Rattle.grammar.specs.declared.values.«Type».the-variants as Kind
 use Rattle.grammar.specs.declared.typing.Typed.{Typed}
-use Rattle.grammar.specs.declared.typing.Typed.the-variants.{Known, IllTyped, TableFull}
+use Rattle.grammar.specs.declared.typing.Typed.the-variants.{Known, IllTyped, TableFull, TooDeep}
 use Rattle.graph_tables.specs.Words.{actionCount, processCount, transitionCount, kindAt, kindsOf, valueAt, placeAt, actionKind, resetCount, effectCount, resetAt, effectVar, keyOf, guardLength, clockOf, guardItems, effectItems, epsilon}
 use Rattle.graph_tables.specs.Formed.{variableFormed, clockBefore, limitFormed, limitsFormed, locationFormed, zeroInside, processFormed, resetBefore, resetFormed, resetsFormed, isTyped, typedAs, effectFormed, plainFormed, expressionFormed, sendFormed, targetFormed, receiveFormed, actionFormed, actionKnown, keyFormed, keyBefore, guardFormed, transitionFormed, partsFormed, startedOf, wellFormed}
 use Rattle.graph_tables.specs.Sound.{VariableSound, LimitsSound, ProcessSound, ResetsSound, ExpressionSound, EffectSound, ActionSound, GuardSound, TransitionSound, Sound}
@@ -89,11 +89,13 @@ known : (x : Typed) → isTyped x ≡ true → (k : Kind) × (x ≡ Known k)
 known (Known k) h = (k, refl)
 known IllTyped h = never h
 known TableFull h = never h
+known (TooDeep k) h = never h
 
 known-as : (w : ℕ) (x : Typed) → typedAs w x ≡ true → (k : Kind) × ((x ≡ Known k) × (kindWord k ≡ w))
 known-as w (Known k) h = (k, (refl, eqb-true _ _ h))
 known-as w IllTyped h = never h
 known-as w TableFull h = never h
+known-as w (TooDeep k) h = never h
 
 effect : (t : List ℕ) (a e : ℕ) → effectFormed t a e ≡ true → EffectSound t a e
 unfolding effectFormed

@@ -11,7 +11,7 @@ use Rattle.grammar.specs.Values.{kindWord}
 use Rattle.grammar.specs.Draws.{drawsOf}
 use Rattle.grammar.specs.Typing.{typeOf}
 use Rattle.grammar.specs.declared.typing.Typed.{Typed}
-use Rattle.grammar.specs.declared.typing.Typed.the-variants.{Known, IllTyped, TableFull}
+use Rattle.grammar.specs.declared.typing.Typed.the-variants.{Known, IllTyped, TableFull, TooDeep}
 use Rattle.graph_tables.specs.Words.{variableCount, clockCount, locationCount, actionCount, processCount, transitionCount, kindAt, kindsOf, valueAt, placeAt, invariantCount, actionKind, resetCount, effectCount, resetAt, effectVar, effectLength, keyOf, guardLength, limitCount, preOf, actionOf, postOf, clockOf, lowerOf, upperOf, limitRange, guardItems, effectItems, epsilon}
 
 -- ---- counts
@@ -80,11 +80,13 @@ abbrev pub isTyped : Typed → Bool
 isTyped (Known k) = true
 isTyped IllTyped = false
 isTyped TableFull = false
+isTyped (TooDeep k) = false
 
 abbrev pub typedAs : ℕ → Typed → Bool
 typedAs w (Known k) = eqb (kindWord k) w
 typedAs w IllTyped = false
 typedAs w TableFull = false
+typedAs w (TooDeep k) = false
 
 unfoldable pub effectFormed : List ℕ → ℕ → ℕ → Bool
 effectFormed t a e =

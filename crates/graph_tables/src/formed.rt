@@ -183,6 +183,7 @@ fn is_typed(typed: Typed) -> bool
         Typed::Known(_) => true,
         Typed::IllTyped => false,
         Typed::TableFull => false,
+        Typed::TooDeep(_) => false,
     }
 }
 
@@ -193,6 +194,7 @@ fn typed_as(w: u64, typed: Typed) -> bool
         Typed::Known(k) => k.word() == w,
         Typed::IllTyped => false,
         Typed::TableFull => false,
+        Typed::TooDeep(_) => false,
     }
 }
 

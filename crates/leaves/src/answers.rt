@@ -111,7 +111,7 @@ fn put_type(out: &mut [u8], t: Type) -> usize {
 fn put_typed(out: &mut [u8], t: Typed) -> usize {
     match t {
         Typed::Known(k) => put_type(out, k),
-        Typed::IllTyped | Typed::TableFull => {
+        Typed::IllTyped | Typed::TableFull | Typed::TooDeep(_) => {
             let here = output::put_all(out, 0, b"refused ");
             let last = output::put_number(out, here, t.number() as u64);
             end(out, last)
