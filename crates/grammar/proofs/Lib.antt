@@ -6,6 +6,7 @@ pub mod OperationLaws
 pub mod HeldLaws
 pub mod KindLaws
 pub mod IllLaws
+pub mod MoreKinds
 pub mod DrawLaws
 pub mod Stack
 pub mod StepLaws

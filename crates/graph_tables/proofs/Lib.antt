@@ -1,2 +1,3 @@
 pub mod FormedLaws
 pub mod SoundLaws
+pub mod KeptLaws

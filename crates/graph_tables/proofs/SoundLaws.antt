@@ -9,11 +9,12 @@ use borrow.Author.Tests.{ltb-true, leb-true, eqb-true, ne-eqb}
 use lib.Dec.{eqb}
 use Rattle.laws.specs.Below.{_and_}
 use Rattle.laws.proofs.BelowLaws.{and-first, and-rest, all-at}
+use Rattle.laws.proofs.Tests.{never}
 use Rattle.grammar.specs.Values.{kindWord}
 use Rattle.grammar.specs.Draws.{drawsOf}
 use Rattle.grammar.specs.Typing.{typeOf}
-use Rattle.grammar.specs.declared.values.«Type».{«Type» as Kind}
 use Rattle.grammar.specs.declared.values.«Type».the-variants as Kind
+use Rattle.grammar.specs.declared.values.«Type».{«Type» as Kind}
 use Rattle.grammar.specs.declared.typing.Typed.{Typed}
 use Rattle.grammar.specs.declared.typing.Typed.the-variants.{Known, IllTyped, TableFull, TooDeep}
 use Rattle.graph_tables.specs.Words.{actionCount, processCount, transitionCount, kindAt, kindsOf, valueAt, placeAt, actionKind, resetCount, effectCount, resetAt, effectVar, keyOf, guardLength, clockOf, guardItems, effectItems, epsilon}
@@ -25,9 +26,6 @@ use Rattle.graph_tables.proofs.FormedLaws.{few-limits, limits-fit, coun
 by-test : {P : Type 0} (t a b : Bool) → cond t a b ≡ true → (t ≡ true → a ≡ true → P) → (t ≡ false → b ≡ true → P) → P
 by-test true a b h first second = first refl h
 by-test false a b h first second = second refl h
-
-never : {P : Type 0} → false ≡ true → P
-never e = let z : _≡_ {A = ℕ} 0 1 = cc in absurd (omega arith)
 
 -- numbers of which each is at least the one before
 in-order : (f before : ℕ → ℕ) (n : ℕ) → ((i : ℕ) → before (suc i) ≡ f i) → ((i : ℕ) → i < n → before i ≤ f i) → (i : ℕ) → i + 1 < n → f i ≤ f (i + 1)

@@ -7,10 +7,10 @@ use grammar::typing;
 use grammar::typing::Typed;
 ghost use mathlib.Core.Path.{_≡_};
 ghost use mathlib.Core.Bool.{true};
-ghost use Prim.Native.Nat.{ℕ, _≤_, _<_};
-ghost use Rattle.laws.specs.Below.{allBelow, sumBelow};
-ghost use Rattle.graph_tables.specs.Words.{Words, variableCount, clockCount, locationCount, actionCount, processCount, transitionCount, kindAt, kindsOf, valueAt, placeAt, invariantCount, actionKind, resetCount, effectCount, resetAt, effectVar, effectLength, keyOf, guardLength, limitCount, clockOf, lowerOf, upperOf, guardItems, effectItems};
-ghost use Rattle.graph_tables.specs.Formed.{Counted, BoundsFit, countsFormed, variableFormed, boundFormed, clockBefore, limitFormed, limitsFormed, locationFormed, zeroInside, processFormed, resetBefore, resetFormed, resetsFormed, isTyped, typedAs, effectFormed, effectDraws, plainFormed, expressionFormed, sendFormed, targetFormed, receiveFormed, actionFormed, actionKnown, keyFormed, keyBefore, guardFormed, transitionFormed, partsFormed, startedOf, wellFormed};
+ghost use Prim.Native.Nat.{_≤_, _<_};
+ghost use Rattle.laws.specs.Below.{allBelow};
+ghost use Rattle.graph_tables.specs.Words.{Words, variableCount, locationCount};
+ghost use Rattle.graph_tables.specs.Formed.{Counted, countsFormed, variableFormed, boundFormed, clockBefore, limitFormed, limitsFormed, locationFormed, processFormed, resetBefore, resetFormed, resetsFormed, isTyped, typedAs, effectFormed, plainFormed, expressionFormed, sendFormed, targetFormed, receiveFormed, actionFormed, keyFormed, keyBefore, guardFormed, transitionFormed, partsFormed, startedOf, wellFormed};
 
 fn counts_formed(t: &[u64]) -> bool
     requires { ⌜ Words (now t) ⌝ }
@@ -227,24 +227,6 @@ fn all_effects_formed(t: &[u64], a: usize, n: usize) -> bool
     true
 }
 
-fn effect_draws(t: &[u64], a: usize, e: usize) -> usize
-    requires { ⌜ Words (now t) × (a < 32) × (e < 16) × (effectLength (now t) a e ≤ 64) ⌝ }
-    ensures { λ r. ⌜ (r ≡ effectDraws (now (t .entry)) a e) × (r ≤ 64) ⌝ }
-{
-    draws::count_draws(inner::effect_items(t, a, e))
-}
-
-fn all_draws(t: &[u64], a: usize, n: usize) -> usize
-    requires { ⌜ Words (now t) × (a < 32) × (n ≤ 16) × ((e : ℕ) → e < n → effectLength (now t) a e ≤ 64) ⌝ }
-    ensures { λ r. ⌜ r ≡ sumBelow n (effectDraws (now (t .entry)) a) ⌝ }
-{
-    let mut sum: usize = 0;
-    for e in 0..n {
-        sum += effect_draws(t, a, e);
-    }
-    sum
-}
-
 fn plain_formed(t: &[u64], a: usize) -> bool
     requires { ⌜ Words (now t) × (variableCount (now t) ≤ 16) × (a < 32) ⌝ }
     ensures { λ r. ⌜ r ≡ plainFormed (now (t .entry)) a ⌝ }
@@ -259,7 +241,7 @@ fn plain_formed(t: &[u64], a: usize) -> bool
     if !all_effects_formed(t, a, n) {
         return false;
     }
-    all_draws(t, a, n) <= sizes::DRAWS
+    inner::all_draws(t, a, n) <= sizes::DRAWS
 }
 
 fn expression_formed(t: &[u64], a: usize, e: usize) -> bool
@@ -298,7 +280,7 @@ fn send_formed(t: &[u64], a: usize) -> bool
     if !all_expressions_formed(t, a, n) {
         return false;
     }
-    all_draws(t, a, n) <= sizes::DRAWS
+    inner::all_draws(t, a, n) <= sizes::DRAWS
 }
 
 fn target_formed(t: &[u64], a: usize, e: usize) -> bool
@@ -351,16 +333,6 @@ fn action_formed(t: &[u64], a: usize) -> bool
     receive_formed(t, a)
 }
 
-fn action_known(t: &[u64], a: u64) -> bool
-    requires { ⌜ Words (now t) ⌝ }
-    ensures { λ r. ⌜ r ≡ actionKnown (now (t .entry)) a ⌝ }
-{
-    if a == 4294967295 {
-        return true;
-    }
-    (a as usize) < inner::action_count(t)
-}
-
 fn key_formed(t: &[u64], key: u64) -> bool
     requires { ⌜ Words (now t) ⌝ }
     ensures { λ r. ⌜ r ≡ keyFormed (now (t .entry)) key ⌝ }
@@ -372,7 +344,7 @@ fn key_formed(t: &[u64], key: u64) -> bool
     if n <= (key % 32) as usize {
         return false;
     }
-    action_known(t, key / 32 % 4294967296)
+    inner::action_known(t, key / 32 % 4294967296)
 }
 
 fn key_before(t: &[u64], k: usize) -> u64

@@ -1,13 +1,14 @@
 // The words of a graph, by name. Each asks for a table of the right length and a number within its size; what stands there
 // may be anything.
+use grammar::draws;
 use time::Bound;
 use time::TimeRange;
 ghost use mathlib.Core.Path.{_≡_};
 ghost use Prim.Native.Nat.{ℕ, _/_, _≤_, _<_};
 ghost use lib.ListN.{length};
 ghost use Rattle.graph_tables.specs.Words.{Words, variableCount, clockCount, locationCount, actionCount, processCount, transitionCount, kindAt, kindsOf, valueAt, placeAt, invariantCount, actionKind, resetCount, effectCount, resetAt, effectVar, effectLength, keyOf, guardLength, limitCount, clockOf, lowerOf, upperOf, boundOf, limitRange, guardItems, effectItems};
-ghost use Rattle.graph_tables.specs.Formed.{BoundsFit, zeroInside};
-ghost use Rattle.laws.specs.Below.{allBelow};
+ghost use Rattle.graph_tables.specs.Formed.{BoundsFit, zeroInside, effectDraws, actionKnown};
+ghost use Rattle.laws.specs.Below.{allBelow, sumBelow};
 
 pub fn variable_count(t: &[u64]) -> usize
     requires { ⌜ Words (now t) ⌝ }
@@ -233,4 +234,34 @@ pub fn all_zero_inside(t: &[u64], g: usize, n: usize) -> bool
         }
     }
     true
+}
+
+pub fn effect_draws(t: &[u64], a: usize, e: usize) -> usize
+    requires { ⌜ Words (now t) × (a < 32) × (e < 16) × (effectLength (now t) a e ≤ 64) ⌝ }
+    ensures { λ r. ⌜ (r ≡ effectDraws (now (t .entry)) a e) × (r ≤ 64) ⌝ }
+{
+    draws::count_draws(effect_items(t, a, e))
+}
+
+// The draws of the first n effects of an action.
+pub fn all_draws(t: &[u64], a: usize, n: usize) -> usize
+    requires { ⌜ Words (now t) × (a < 32) × (n ≤ 16) × ((e : ℕ) → e < n → effectLength (now t) a e ≤ 64) ⌝ }
+    ensures { λ r. ⌜ r ≡ sumBelow n (effectDraws (now (t .entry)) a) ⌝ }
+{
+    let mut sum: usize = 0;
+    for e in 0..n {
+        sum += effect_draws(t, a, e);
+    }
+    sum
+}
+
+// Whether there is such an action, or it is the reserved one.
+pub fn action_known(t: &[u64], a: u64) -> bool
+    requires { ⌜ Words (now t) ⌝ }
+    ensures { λ r. ⌜ r ≡ actionKnown (now (t .entry)) a ⌝ }
+{
+    if a == 4294967295 {
+        return true;
+    }
+    (a as usize) < action_count(t)
 }

@@ -6,6 +6,7 @@ use mathlib.Core.Bool.{Bool, true, false}
 use mathlib.Core.Logic.{⊎-elim}
 use native.Mathlib.Nat.{le-of-suc-le-suc, not-suc-le-zero, eq-or-lt-of-le, le-antisymm}
 use native.Mathlib.Numerals.{add-one}
+use native.Mathlib.Omega.{arith}
 use Rattle.laws.specs.Below.{_and_, allBelow, sumBelow}
 
 -- a chain of tests `a and b and ..`, of which each `return` of the code knows the first few
@@ -33,6 +34,12 @@ unfolding _and_
 and-rest true b h = h
 and-rest false true h = refl
 and-rest false false h = h
+
+pub and-both : {a b : Bool} → a ≡ true → b ≡ true → (a and b) ≡ true
+and-both e f = sym (and-yes e (sym f))
+
+pub and-kept : {a b c d : Bool} → (a ≡ true → c ≡ true) → (b ≡ true → d ≡ true) → (a and b) ≡ true → (c and d) ≡ true
+and-kept f g h = and-both (f (and-first _ _ h)) (g (and-rest _ _ h))
 
 module _ (p : ℕ → Bool) where
   pub all-none : allBelow 0 p ≡ true
@@ -64,6 +71,14 @@ module _ (p : ℕ → Bool) where
       (λ (m : i < n). all-at n i (and-first (allBelow n p) (p n) h) m)
       (eq-or-lt-of-le (le-of-suc-le-suc l))
 
+  pub all-from : (n : ℕ) → ((i : ℕ) → i < n → p i ≡ true) → allBelow n p ≡ true
+  unfolding allBelow
+  all-from zero h = refl
+  all-from (suc n) h = and-both (all-from n (λ i l. h i (omega arith))) (h n (omega arith))
+
+pub all-kept : (p q : ℕ → Bool) (n : ℕ) → ((i : ℕ) → i < n → p i ≡ true → q i ≡ true) → allBelow n p ≡ true → allBelow n q ≡ true
+all-kept p q n f h = all-from q n (λ i l. f i l (all-at p n i h l))
+
 -- a sum over the numbers below a bound
 pub sum-none : (f : ℕ → ℕ) → sumBelow 0 f ≡ 0
 unfolding sumBelow
@@ -72,3 +87,8 @@ sum-none f = refl
 pub sum-more : (f : ℕ → ℕ) (i : ℕ) → sumBelow (i + 1) f ≡ sumBelow i f + f i
 unfolding sumBelow
 sum-more f i = ap (λ (n : ℕ). sumBelow n f) (add-one i)
+
+pub sum-same : (f g : ℕ → ℕ) (n : ℕ) → ((i : ℕ) → i < n → f i ≡ g i) → sumBelow n f ≡ sumBelow n g
+unfolding sumBelow
+sum-same f g zero h = refl
+sum-same f g (suc n) h = cc (sum-same f g n (λ i l. h i (omega arith)), h n (omega arith))

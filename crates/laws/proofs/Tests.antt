@@ -4,8 +4,12 @@ use mathlib.Core.Bool.{Bool, true, false, not, _&&_}
 use Prim.Native.Nat.{ℕ, _≤_}
 use native.Mathlib.Nat.{lt-of-not-le, not-le-of-lt}
 use native.Mathlib.Decide.{ℕ-discrete}
+use native.Mathlib.Omega.{arith}
 use lib.Dec.{leb, eqb}
 use borrow.Author.Tests.{not-true, not-false, leb-true, leb-false, le-leb, lt-leb, eq-eqb, ne-eqb}
+
+pub never : {P : Type 0} → false ≡ true → P
+never e = let z : _≡_ {A = ℕ} 0 1 = cc in absurd (omega arith)
 
 -- a code's `if !f(..) { return ..; }`: r is what f gave, p what its contract says
 pub held : {r p : Bool} → r ≡ p → not r ≡ false → p ≡ true
@@ -13,6 +17,13 @@ held {r} e n = sym e ∙ not-false r n
 
 pub failed : {r p : Bool} → r ≡ p → not r ≡ true → p ≡ false
 failed {r} e n = sym e ∙ not-true r n
+
+-- a code's `if f(..) { return ..; }`, where the definition asks that it is not so
+pub denied : {r p : Bool} → r ≡ p → r ≡ true → not p ≡ false
+denied e h = ap not (sym e ∙ h)
+
+pub granted : {r p : Bool} → r ≡ p → r ≡ false → not p ≡ true
+granted e h = ap not (sym e ∙ h)
 
 -- a chain of tests `a && b && ..`, of which each `return` of the code knows the first few
 pub both-yes : {a r q : Bool} → a ≡ true → r ≡ q → r ≡ (a && q)

@@ -1,3 +1,7 @@
-pub mod RowLaws
+pub mod CheckLaws
+pub mod TypedLaws
+pub mod ReadyActions
+pub mod ReadyParts
 pub mod BuildingLaws
+pub mod KeepLaws
 pub mod Theorems

@@ -11,13 +11,19 @@ use Rattle.laws.specs.Ladder.{unless}
 use Rattle.laws.specs.Below.{_and_, allBelow}
 use Rattle.grammar.specs.declared.values.Val.{Val}
 use Rattle.graph_tables.specs.declared.refusals.Refusal.{Refusal}
-use Rattle.graph_tables.specs.declared.refusals.Refusal.the-variants.{BadState, TableFull, MissingLocation, Invariant, MissingAction, MissingClock, NoEffects, EffectOnSend, EffectOnReceive}
+use Rattle.graph_tables.specs.declared.refusals.Refusal.the-variants.{BadState, TableFull, MissingLocation, Invariant}
+use Rattle.graph_tables.specs.declared.handed.Limits.{Limits}
+use Rattle.graph_tables.specs.declared.handed.Vars.{Vars}
 use Rattle.graph_tables.specs.Words.{Words, variableCount, clockCount, locationCount, actionCount}
 use Rattle.graph_tables.specs.Formed.{wellFormed, countsFormed, startedOf, partsFormed}
-use Rattle.program_graph.specs.declared.answers.Placed.the-variants.{Refused}
+use Rattle.program_graph.specs.declared.answers.Placed.{Placed}
+use Rattle.program_graph.specs.declared.answers.Placed.the-variants as Placed
 use Rattle.program_graph.specs.declared.answers.Done.{Done}
 use Rattle.program_graph.specs.declared.answers.Done.the-variants as Done
-use Rattle.program_graph.specs.Building.{Outcome, refusedWith, placedAt, emptyOf, newVarOf, newClockOf, newActionOf, newLocationOf, newProcessOf, notDone, doneWith, withReset, addKnownReset, addResetOf}
+use Rattle.program_graph.specs.Checks.{resetCheck, effectCheck, sendCheck, receiveCheck, locationCheck, initialCheck, transitionCheck}
+use Rattle.program_graph.specs.Building.{Outcome, refusedWith, placedAt, notDone, doneWith, doneIf, placedIf, emptyOf, newVarOf, newClockOf, newActionOf, newLocationOf, newProcessOf, addResetOf, addEffectOf, newSendOf, newReceiveOf, newTimedLocationOf, newInitialOf, addTransitionOf}
+use Rattle.program_graph.specs.Chains.{Call, new-var, new-clock, new-action, new-location, new-process, add-reset, add-effect, new-send, new-receive, new-timed-location, new-initial-location, add-transition, after, Fits, afterAll, AllFit}
+use Rattle.program_graph.proofs.KeepLaws.{var-keeps, clock-keeps, action-keeps, location-keeps, process-keeps, reset-keeps, effect-keeps, send-keeps, receive-keeps, timed-location-keeps, initial-keeps, transition-keeps}
 
 -- The empty graph is well formed for building.
 pub empty-formed : (t : List ℕ) → Words t → wellFormed (emptyOf t .table) true ≡ true
@@ -32,55 +38,101 @@ empty-formed (a ∷ b ∷ c ∷ d ∷ e ∷ f ∷ t) h =
     let n : eqb (length (a ∷ b ∷ c ∷ d ∷ e ∷ f ∷ t)) 46890 ≡ true = eq-eqb (length (a ∷ b ∷ c ∷ d ∷ e ∷ f ∷ t)) 46890 h in
     rw (n, n)
 
--- a ladder whose answer is a refusal
-kept : (t : List ℕ) (a b : Bool) (n : ℕ) (after : List ℕ) (r : Refusal)
-    → unless a (refusedWith BadState t) (unless b (refusedWith TableFull t) (placedAt n after)) .answer ≡ Refused r
-    → unless a (refusedWith BadState t) (unless b (refusedWith TableFull t) (placedAt n after)) .table ≡ t
+-- Every building call leaves a well-formed table well formed, whatever it answers.
+pub keeps : (t : List ℕ) (c : Call) → Fits c → wellFormed t true ≡ true → wellFormed (after t c) true ≡ true
+keeps t (new-var v) fit h = var-keeps t h v fit
+keeps t new-clock fit h = clock-keeps t h
+keeps t new-action fit h = action-keeps t h
+keeps t new-location fit h = location-keeps t h
+keeps t (new-process l) fit h = process-keeps t h l
+keeps t (add-reset a clock) fit h = reset-keeps t h a clock
+keeps t (add-effect a v ws) fit h = effect-keeps t h a v ws
+keeps t (new-send m count) fit h = send-keeps t h m count
+keeps t (new-receive v) fit h = receive-keeps t h v
+keeps t (new-timed-location l) fit h = timed-location-keeps t h l fit
+keeps t (new-initial-location l) fit h = initial-keeps t h l fit
+keeps t (add-transition pre a post guarded ws l) fit h = transition-keeps t h pre a post guarded ws l fit
+
+-- So does every chain of them; from an empty graph, none is ever answered 32.
+pub chain-keeps : (t : List ℕ) (calls : List Call) → AllFit calls → wellFormed t true ≡ true → wellFormed (afterAll t calls) true ≡ true
+chain-keeps t [] fit h = h
+chain-keeps t (c ∷ calls) fit h = chain-keeps (after t c) calls (fit .1) (keeps t c (fit .0) h)
+
+-- a refused call leaves every word: of a ladder, and of a call that asks a check
+abbrev Keeps : {A : Type 0} → (Refusal → A) → List ℕ → Outcome A → Type 0
+Keeps {A} refused t o = (r : Refusal) → o .answer ≡ refused r → o .table ≡ t
+
+rung : {A : Type 0} (refused : Refusal → A) (t : List ℕ) (b : Bool) (o p : Outcome A) → o .table ≡ t → Keeps refused t p → Keeps refused t (unless b o p)
 unfolding unless
-kept t false b n after r e = refl
-kept t true false n after r e = refl
-kept t true true n after r e = let z : _≡_ {A = ℕ} 0 1 = cc in absurd (omega arith)
+rung refused t true o p e k r h = k r h
+rung refused t false o p e k r h = e
+
+done : (t u : List ℕ) → Keeps Done.Refused t (doneWith u)
+done t u r e = let z : _≡_ {A = ℕ} 0 1 = cc in absurd (omega arith)
+
+placed : (t : List ℕ) (n : ℕ) (u : List ℕ) → Keeps Placed.Refused t (placedAt n u)
+placed t n u r e = let z : _≡_ {A = ℕ} 0 1 = cc in absurd (omega arith)
+
+done-if : (c : Done) (t u : List ℕ) → Keeps Done.Refused t (doneIf c t u)
+done-if Done.Accepted t u r e = done t u r e
+done-if (Done.Refused q) t u r e = refl
+
+placed-if : (c : Done) (t : List ℕ) (n : ℕ) (u : List ℕ) → Keeps Placed.Refused t (placedIf c t n u)
+placed-if Done.Accepted t n u r e = placed t n u r e
+placed-if (Done.Refused q) t n u r e = refl
+
+part : (t : List ℕ) (a b : Bool) (n : ℕ) (u : List ℕ) → Keeps Placed.Refused t (unless a (refusedWith BadState t) (unless b (refusedWith TableFull t) (placedAt n u)))
+part t a b n u = rung Placed.Refused t a _ _ refl (rung Placed.Refused t b (refusedWith TableFull t) (placedAt n u) refl (placed t n u))
 
 -- A refused call leaves every word.
-module _ (t : List ℕ) (r : Refusal) where
-  pub var-refused : (v : Val) → newVarOf t v .answer ≡ Refused r → newVarOf t v .table ≡ t
+module _ (t : List ℕ) where
+  pub var-refused : (v : Val) → Keeps Placed.Refused t (newVarOf t v)
   unfolding newVarOf
-  var-refused v e = kept t (wellFormed t true) (ltb (variableCount t) 16) _ _ r e
+  var-refused v = part t (wellFormed t true) (ltb (variableCount t) 16) _ _
 
-  pub clock-refused : newClockOf t .answer ≡ Refused r → newClockOf t .table ≡ t
+  pub clock-refused : Keeps Placed.Refused t (newClockOf t)
   unfolding newClockOf
-  clock-refused e = kept t (wellFormed t true) (ltb (clockCount t) 8) _ _ r e
+  clock-refused = part t (wellFormed t true) (ltb (clockCount t) 8) _ _
 
-  pub action-refused : newActionOf t .answer ≡ Refused r → newActionOf t .table ≡ t
+  pub action-refused : Keeps Placed.Refused t (newActionOf t)
   unfolding newActionOf
-  action-refused e = kept t (wellFormed t true) (ltb (actionCount t) 32) _ _ r e
+  action-refused = part t (wellFormed t true) (ltb (actionCount t) 32) _ _
 
-  pub location-refused : newLocationOf t .answer ≡ Refused r → newLocationOf t .table ≡ t
+  pub location-refused : Keeps Placed.Refused t (newLocationOf t)
   unfolding newLocationOf
-  location-refused e = kept t (wellFormed t true) (ltb (locationCount t) 32) _ _ r e
+  location-refused = part t (wellFormed t true) (ltb (locationCount t) 32) _ _
 
--- the same of a ladder whose answer is done or a refusal, rung by rung
-abbrev Keeps : List ℕ → Outcome Done → Type 0
-Keeps t o = (r : Refusal) → o .answer ≡ Done.Refused r → o .table ≡ t
+  pub process-refused : (l : ℕ) → Keeps Done.Refused t (newProcessOf t l)
+  unfolding newProcessOf
+  process-refused l =
+      rung Done.Refused t _ (notDone BadState t) _ refl
+      (rung Done.Refused t _ (notDone MissingLocation t) _ refl
+      (rung Done.Refused t _ (notDone Invariant t) _ refl (rung Done.Refused t _ (notDone TableFull t) _ refl (done t _))))
 
-rung : (t : List ℕ) (b : Bool) (q : Refusal) (o : Outcome Done) → Keeps t o → Keeps t (unless b (notDone q t) o)
-unfolding unless
-rung t true q o k r e = k r e
-rung t false q o k r e = refl
+  pub reset-refused : (a clock : ℕ) → Keeps Done.Refused t (addResetOf t a clock)
+  unfolding addResetOf
+  reset-refused a clock = done-if (resetCheck t a clock) t _
 
-accepted : (t after : List ℕ) → Keeps t (doneWith after)
-accepted t after r e = let z : _≡_ {A = ℕ} 0 1 = cc in absurd (omega arith)
+  pub effect-refused : (a v : ℕ) (ws : List ℕ) → Keeps Done.Refused t (addEffectOf t a v ws)
+  unfolding addEffectOf
+  effect-refused a v ws = done-if (effectCheck t a v ws) t _
 
--- A refused process leaves every word.
-pub process-refused : (t : List ℕ) (l : ℕ) (r : Refusal) → newProcessOf t l .answer ≡ Done.Refused r → newProcessOf t l .table ≡ t
-unfolding newProcessOf
-process-refused t l = rung t _ BadState _ (rung t _ MissingLocation _ (rung t _ Invariant _ (rung t _ TableFull _ (accepted t _))))
+  pub send-refused : (m : ℕ → List ℕ) (count : ℕ) → Keeps Placed.Refused t (newSendOf t m count)
+  unfolding newSendOf
+  send-refused m count = placed-if (sendCheck t m count) t _ _
 
--- A refused reset leaves every word.
-pub reset-refused : (t : List ℕ) (a clock : ℕ) (r : Refusal) → addResetOf t a clock .answer ≡ Done.Refused r → addResetOf t a clock .table ≡ t
-unfolding addResetOf addKnownReset
-reset-refused t a clock =
-    rung t _ BadState _
-    (rung t _ NoEffects _
-    (rung t _ MissingClock _
-    (rung t _ MissingAction _ (rung t _ EffectOnSend _ (rung t _ EffectOnReceive _ (rung t _ TableFull _ (accepted t (withReset t a clock))))))))
+  pub receive-refused : (v : Vars) → Keeps Placed.Refused t (newReceiveOf t v)
+  unfolding newReceiveOf
+  receive-refused v = placed-if (receiveCheck t v) t _ _
+
+  pub timed-location-refused : (l : Limits) → Keeps Placed.Refused t (newTimedLocationOf t l)
+  unfolding newTimedLocationOf
+  timed-location-refused l = placed-if (locationCheck t l) t _ _
+
+  pub initial-refused : (l : Limits) → Keeps Placed.Refused t (newInitialOf t l)
+  unfolding newInitialOf
+  initial-refused l = placed-if (initialCheck t l) t _ _
+
+  pub transition-refused : (pre a post : ℕ) (guarded : Bool) (ws : List ℕ) (l : Limits) → Keeps Done.Refused t (addTransitionOf t pre a post guarded ws l)
+  unfolding addTransitionOf
+  transition-refused pre a post guarded ws l = done-if (transitionCheck t pre a post guarded ws l) t _

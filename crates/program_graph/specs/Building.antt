@@ -1,7 +1,7 @@
 -- Building one graph. Each call gives an answer and the table afterwards; a refusal leaves every word.
-use Prim.Native.Nat.{ℕ, _+_, _*_}
-use mathlib.Core.Bool.{true, false, not, cond}
-use mathlib.Core.List.{List, [], _∷_}
+use Prim.Native.Nat.{ℕ, _+_}
+use mathlib.Core.Bool.{Bool, true, false, cond}
+use mathlib.Core.List.{List, []}
 use lib.Dec.{eqb, ltb}
 use lib.ListN.{length, set}
 use Rattle.laws.specs.Ladder.{unless}
@@ -12,10 +12,14 @@ use Rattle.grammar.specs.declared.values.«Type».the-variants as Kind
 use Rattle.grammar.specs.declared.values.Val.{Val}
 use Rattle.grammar.specs.declared.values.Val.the-variants.{Boolean, Integer}
 use Rattle.graph_tables.specs.declared.refusals.Refusal.{Refusal}
-use Rattle.graph_tables.specs.declared.refusals.Refusal.the-variants.{BadState, TableFull, MissingAction, MissingClock, MissingVar, MissingLocation, Invariant, NoEffects, EffectOnSend, EffectOnReceive, NoProcess}
-use Rattle.graph_tables.specs.Words.{variableCount, clockCount, locationCount, actionCount, processCount, kindAt, invariantCount, actionKind, resetCount, resetAt, epsilon}
+use Rattle.graph_tables.specs.declared.refusals.Refusal.the-variants.{BadState, TableFull, MissingVar, MissingLocation, Invariant, NoProcess}
+use Rattle.graph_tables.specs.declared.handed.Limits.{Limits}
+use Rattle.graph_tables.specs.declared.handed.Vars.{Vars}
+use Rattle.graph_tables.specs.Handed.{noLimits}
+use Rattle.graph_tables.specs.Words.{variableCount, clockCount, locationCount, actionCount, processCount, kindAt, invariantCount}
 use Rattle.graph_tables.specs.Formed.{wellFormed, zeroInside}
-use Rattle.program_graph.specs.Rows.{placeOf, insertedWords}
+use Rattle.graph_edits.specs.Edits.{withVar, withClock, withAction, withProcess, withLocation, withReset, withEffect, withSend, withReceive, withTransition, keyWith}
+use Rattle.program_graph.specs.Checks.{resetCheck, effectCheck, sendCheck, receiveCheck, locationCheck, initialCheck, transitionCheck}
 use Rattle.program_graph.specs.declared.answers.Placed.{Placed}
 use Rattle.program_graph.specs.declared.answers.Placed.the-variants as Placed
 use Rattle.program_graph.specs.declared.answers.Done.{Done}
@@ -61,8 +65,7 @@ payloadOf (Integer n) = bitsOf n
 
 unfoldable pub newVarOf : List ℕ → Val → Outcome Placed
 newVarOf t v =
-    onFormed t (withRoom (variableCount t) 16 t
-    (set (set (set t (6 + variableCount t) (kindWord (kindOf v))) (22 + variableCount t) (payloadOf v)) 0 (variableCount t + 1)))
+    onFormed t (withRoom (variableCount t) 16 t (withVar t (kindWord (kindOf v)) (payloadOf v)))
 
 unfoldable pub varTypeOf : List ℕ → ℕ → VarType
 varTypeOf t v =
@@ -71,15 +74,14 @@ varTypeOf t v =
     (cond (eqb (kindAt t v) 0) (VarType.Known Kind.Boolean) (VarType.Known Kind.Integer)))
 
 unfoldable pub newClockOf : List ℕ → Outcome Placed
-newClockOf t = onFormed t (withRoom (clockCount t) 8 t (set t 1 (clockCount t + 1)))
+newClockOf t = onFormed t (withRoom (clockCount t) 8 t (withClock t))
 
 unfoldable pub newActionOf : List ℕ → Outcome Placed
 newActionOf t =
-    onFormed t (withRoom (actionCount t) 32 t
-    (set (set (set (set t (74 + 51 * actionCount t) 0) (75 + 51 * actionCount t) 0) (76 + 51 * actionCount t) 0) 3 (actionCount t + 1)))
+    onFormed t (withRoom (actionCount t) 32 t (withAction t 0 0))
 
 unfoldable pub newLocationOf : List ℕ → Outcome Placed
-newLocationOf t = onFormed t (withRoom (locationCount t) 32 t (set (set t (42 + locationCount t) 0) 2 (locationCount t + 1)))
+newLocationOf t = onFormed t (withRoom (locationCount t) 32 t (withLocation t noLimits))
 
 -- Process: 3, then 9 if an invariant excludes time 0.
 unfoldable pub newProcessOf : List ℕ → ℕ → Outcome Done
@@ -88,7 +90,7 @@ newProcessOf t l =
     (unless (ltb l (locationCount t)) (notDone MissingLocation t)
     (unless (allBelow (invariantCount t l) (zeroInside t (128 + l))) (notDone Invariant t)
     (unless (ltb (processCount t) 4) (notDone TableFull t)
-    (doneWith (set (set t (38 + processCount t) l) 4 (processCount t + 1))))))
+    (doneWith (withProcess t l)))))
 
 -- Build: 29 without a process.
 unfoldable pub buildOf : List ℕ → Done
@@ -96,30 +98,41 @@ buildOf t =
     unless (wellFormed t true) (Done.Refused BadState)
     (unless (ltb 0 (processCount t)) (Done.Refused NoProcess) Done.Accepted)
 
--- ---- resets
--- an action that takes resets and effects: 1 where there is none, 11 for a send, 12 for a receive
-abbrev pub onPlain : List ℕ → ℕ → Outcome Done → Outcome Done
-onPlain t a rest =
-    unless (ltb a (actionCount t)) (notDone MissingAction t)
-    (unless (not (eqb (actionKind t a) 1)) (notDone EffectOnSend t)
-    (unless (not (eqb (actionKind t a) 2)) (notDone EffectOnReceive t) rest))
+-- ---- calls that ask a check first: a refusal leaves every word
+abbrev pub doneIf : Done → List ℕ → List ℕ → Outcome Done
+doneIf Done.Accepted t after = doneWith after
+doneIf (Done.Refused r) t after = notDone r t
 
--- a clock among the resets of action a, before the first whose number is greater
-abbrev pub resetPlace : List ℕ → ℕ → ℕ → ℕ
-resetPlace t a clock = placeOf (resetAt t a) (resetCount t a) clock
+-- the new part has this number
+abbrev pub placedIf : Done → List ℕ → ℕ → List ℕ → Outcome Placed
+placedIf Done.Accepted t n after = placedAt n after
+placedIf (Done.Refused r) t n after = refusedWith r t
 
-abbrev pub withReset : List ℕ → ℕ → ℕ → List ℕ
-withReset t a clock =
-    set (insertedWords t (77 + 51 * a + resetPlace t a clock) (77 + 51 * a + resetCount t a) (clock ∷ [])) (75 + 51 * a) (resetCount t a + 1)
-
--- the clock is known
-unfoldable pub addKnownReset : List ℕ → ℕ → ℕ → Outcome Done
-addKnownReset t a clock = onPlain t a (unless (ltb (resetCount t a) 16) (notDone TableFull t) (doneWith (withReset t a clock)))
-
--- 10, 2, 1, then 11 or 12, then 28
 unfoldable pub addResetOf : List ℕ → ℕ → ℕ → Outcome Done
-addResetOf t a clock =
-    unless (wellFormed t true) (notDone BadState t)
-    (unless (not (eqb a epsilon)) (notDone NoEffects t)
-    (unless (ltb clock (clockCount t)) (notDone MissingClock t)
-    (addKnownReset t a clock)))
+addResetOf t a clock = doneIf (resetCheck t a clock) t (withReset t a clock)
+
+unfoldable pub addEffectOf : List ℕ → ℕ → ℕ → List ℕ → Outcome Done
+addEffectOf t a v ws = doneIf (effectCheck t a v ws) t (withEffect t a v ws)
+
+-- m has the expressions, count says how many
+unfoldable pub newSendOf : List ℕ → (ℕ → List ℕ) → ℕ → Outcome Placed
+newSendOf t m count = placedIf (sendCheck t m count) t (actionCount t) (withSend t m count)
+
+unfoldable pub newReceiveOf : List ℕ → Vars → Outcome Placed
+newReceiveOf t v = placedIf (receiveCheck t v) t (actionCount t) (withReceive t v)
+
+unfoldable pub newTimedLocationOf : List ℕ → Limits → Outcome Placed
+newTimedLocationOf t l = placedIf (locationCheck t l) t (locationCount t) (withLocation t l)
+
+-- A refused initial timed location adds nothing.
+unfoldable pub newInitialOf : List ℕ → Limits → Outcome Placed
+newInitialOf t l = placedIf (initialCheck t l) t (locationCount t) (withLocation (withProcess t (locationCount t)) l)
+
+-- a transition may have no guard: it has no items then
+abbrev pub guardOf : Bool → List ℕ → List ℕ
+guardOf true ws = ws
+guardOf false ws = []
+
+unfoldable pub addTransitionOf : List ℕ → ℕ → ℕ → ℕ → Bool → List ℕ → Limits → Outcome Done
+addTransitionOf t pre a post guarded ws l =
+    doneIf (transitionCheck t pre a post guarded ws l) t (withTransition t (keyWith pre a post) (guardOf guarded ws) l)

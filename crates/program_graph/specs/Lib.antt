@@ -1,2 +1,3 @@
-pub mod Rows
+pub mod Checks
 pub mod Building
+pub mod Chains

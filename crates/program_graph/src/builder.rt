@@ -2,11 +2,16 @@
 use crate::answers::Done;
 use crate::answers::Placed;
 use crate::answers::VarType;
-use crate::inner::open_gap;
+use crate::checks;
 use grammar::bits;
 use grammar::values::Type;
 use grammar::values::Val;
+use graph_edits::actions;
+use graph_edits::locations;
+use graph_edits::transitions;
 use graph_tables::formed;
+use graph_tables::handed::Limits;
+use graph_tables::handed::Vars;
 use graph_tables::ids::Action;
 use graph_tables::ids::Clock;
 use graph_tables::ids::Location;
@@ -15,10 +20,10 @@ use graph_tables::inner;
 use graph_tables::refusals::Refusal;
 use graph_tables::sizes;
 ghost use mathlib.Core.Path.{_≡_};
-ghost use Prim.Native.Nat.{_≤_, _<_};
-ghost use Rattle.graph_tables.specs.Words.{Words, resetCount};
-ghost use Rattle.graph_tables.specs.Sound.{Sound};
-ghost use Rattle.program_graph.specs.Building.{payloadOf, emptyOf, newVarOf, varTypeOf, newClockOf, newActionOf, newLocationOf, newProcessOf, buildOf, resetPlace, withReset, addKnownReset, addResetOf};
+ghost use Rattle.graph_tables.specs.Words.{epsilon};
+ghost use Rattle.graph_tables.specs.Handed.{noLimits};
+ghost use Rattle.graph_edits.specs.Edits.{chosen};
+ghost use Rattle.program_graph.specs.Building.{payloadOf, emptyOf, newVarOf, varTypeOf, newClockOf, newActionOf, newLocationOf, newProcessOf, buildOf, addResetOf, addEffectOf, newSendOf, newReceiveOf, newTimedLocationOf, newInitialOf, addTransitionOf};
 
 // The value of a variable at the start, as 32 bits.
 fn payload(v: Val) -> u64
@@ -165,71 +170,164 @@ pub fn build(t: &[u64]) -> Done
     Done::Accepted
 }
 
-// The first reset of an action that is above the clock.
-fn reset_place(t: &[u64], a: usize, clock: usize) -> usize
-    requires { ⌜ Words (now t) × (a < 32) × (resetCount (now t) a ≤ 16) ⌝ }
-    ensures { λ r. ⌜ r ≡ resetPlace (now (t .entry)) a clock ⌝ }
-    ensures { λ r. ⌜ r ≤ resetCount (now (t .entry)) a ⌝ }
-{
-    let n = inner::reset_count(t, a);
-    let mut i = 0;
-    while i < n {
-        if clock < inner::reset_at(t, a, i) {
-            return i;
-        }
-        i += 1;
-    }
-    n
-}
-
-// The later resets move up by one.
-fn put_reset(t: &mut [u64], a: usize, clock: usize)
-    requires { ⌜ Words (now t) × (a < 32) × (resetCount (now t) a < 16) ⌝ }
-    ensures { λ _. ⌜ now (t .exit) ≡ withReset (now (t .entry)) a clock ⌝ }
-{
-    let n = inner::reset_count(t, a);
-    let p = reset_place(t, a, clock);
-    open_gap(t, 77 + 51 * a + p, 77 + 51 * a + n, 1);
-    t[77 + 51 * a + p] = clock as u64;
-    t[75 + 51 * a] = (n as u64) + 1;
-}
-
-// The clock is known.
-fn add_known_reset(t: &mut [u64], a: usize, clock: usize) -> Done
-    requires { ⌜ Sound (now t) ⌝ }
-    ensures { λ r. ⌜ (r ≡ addKnownReset (now (t .entry)) a clock .answer) × (now (t .exit) ≡ addKnownReset (now (t .entry)) a clock .table) ⌝ }
-{
-    if inner::action_count(t) <= a {
-        return Done::Refused(Refusal::MissingAction);
-    }
-    let kind = inner::action_kind(t, a);
-    if kind == 1 {
-        return Done::Refused(Refusal::EffectOnSend);
-    }
-    if kind == 2 {
-        return Done::Refused(Refusal::EffectOnReceive);
-    }
-    if sizes::RESETS <= inner::reset_count(t, a) {
-        return Done::Refused(Refusal::TableFull);
-    }
-    put_reset(t, a, clock);
-    Done::Accepted
-}
-
 // A clock among the resets of an action, in the order of their numbers.
 pub fn add_reset(t: &mut [u64], action: Action, clock: Clock) -> Done
     ensures { λ r. ⌜ (r ≡ addResetOf (now (t .entry)) (action .0) (clock .0) .answer) × (now (t .exit) ≡ addResetOf (now (t .entry)) (action .0) (clock .0) .table) ⌝ }
 {
-    if !formed::well_formed(t, true) {
-        return Done::Refused(Refusal::BadState);
-    }
     let a = action.0;
-    if a == Action::EPSILON.0 {
-        return Done::Refused(Refusal::NoEffects);
+    let c = clock.0;
+    let check = checks::reset_check(t, a, c);
+    if let Done::Refused(r) = check {
+        return Done::Refused(r);
     }
-    let k = clock.0 as usize;
-    if inner::clock_count(t) <= k {
-        return Done::Refused(Refusal::MissingClock);
+    actions::put_reset(t, a as usize, c as usize);
+    Done::Accepted
+}
+
+// An effect of an action, behind the others.
+pub fn add_effect(t: &mut [u64], action: Action, var: Var, effect: &[u64]) -> Done
+    ensures { λ r. ⌜ (r ≡ addEffectOf (now (t .entry)) (action .0) (var .0) (now (effect .entry)) .answer) × (now (t .exit) ≡ addEffectOf (now (t .entry)) (action .0) (var .0) (now (effect .entry)) .table) ⌝ }
+{
+    let a = action.0;
+    let v = var.0;
+    let check = checks::effect_check(t, a, v, effect);
+    if let Done::Refused(r) = check {
+        return Done::Refused(r);
     }
-    add_known_reset(t, a as usize, k)
+    actions::put_effect(t, a as usize, v as usize, effect);
+    Done::Accepted
+}
+
+// A send of the first count of four expressions.
+pub fn new_send<'a>(
+    t: &mut [u64],
+    count: usize,
+    w: &'a [u64],
+    x: &'a [u64],
+    y: &'a [u64],
+    z: &'a [u64],
+) -> Placed
+    ensures { λ r. ⌜ (r ≡ newSendOf (now (t .entry)) (chosen (now (w .entry)) (now (x .entry)) (now (y .entry)) (now (z .entry))) count .answer) × (now (t .exit) ≡ newSendOf (now (t .entry)) (chosen (now (w .entry)) (now (x .entry)) (now (y .entry)) (now (z .entry))) count .table) ⌝ }
+{
+    let check = checks::send_check(t, w, x, y, z, count);
+    if let Done::Refused(r) = check {
+        return Placed::Refused(r);
+    }
+    let n = inner::action_count(t);
+    actions::put_send(t, w, x, y, z, count);
+    Placed::At(n as u32)
+}
+
+// A receive into these variables. One may stand twice.
+pub fn new_receive(t: &mut [u64], vars: Vars) -> Placed
+    ensures { λ r. ⌜ (r ≡ newReceiveOf (now (t .entry)) vars .answer) × (now (t .exit) ≡ newReceiveOf (now (t .entry)) vars .table) ⌝ }
+{
+    let check = checks::receive_check(t, vars);
+    if let Done::Refused(r) = check {
+        return Placed::Refused(r);
+    }
+    let n = inner::action_count(t);
+    actions::put_receive(t, vars);
+    Placed::At(n as u32)
+}
+
+// A location with these invariants.
+pub fn new_timed_location(t: &mut [u64], invariants: Limits) -> Placed
+    ensures { λ r. ⌜ (r ≡ newTimedLocationOf (now (t .entry)) invariants .answer) × (now (t .exit) ≡ newTimedLocationOf (now (t .entry)) invariants .table) ⌝ }
+{
+    let check = checks::location_check(t, invariants);
+    if let Done::Refused(r) = check {
+        return Placed::Refused(r);
+    }
+    let n = inner::location_count(t);
+    locations::put_location(t, invariants);
+    Placed::At(n as u32)
+}
+
+// A location with these invariants, and a process that starts there.
+pub fn new_initial_timed_location(t: &mut [u64], invariants: Limits) -> Placed
+    ensures { λ r. ⌜ (r ≡ newInitialOf (now (t .entry)) invariants .answer) × (now (t .exit) ≡ newInitialOf (now (t .entry)) invariants .table) ⌝ }
+{
+    let check = checks::initial_check(t, invariants);
+    if let Done::Refused(r) = check {
+        return Placed::Refused(r);
+    }
+    let n = inner::location_count(t);
+    locations::put_process(t, n);
+    locations::put_location(t, invariants);
+    Placed::At(n as u32)
+}
+
+pub fn new_initial_location(t: &mut [u64]) -> Placed
+    ensures { λ r. ⌜ (r ≡ newInitialOf (now (t .entry)) noLimits .answer) × (now (t .exit) ≡ newInitialOf (now (t .entry)) noLimits .table) ⌝ }
+{
+    new_initial_timed_location(t, Limits::none())
+}
+
+// A transition from pre by an action to post, if its guard is true, within its limits. Without a guard its items are not
+// looked at.
+pub fn add_timed_transition(
+    t: &mut [u64],
+    pre: Location,
+    action: Action,
+    post: Location,
+    guarded: bool,
+    guard: &[u64],
+    limits: Limits,
+) -> Done
+    ensures { λ r. ⌜ (r ≡ addTransitionOf (now (t .entry)) (pre .0) (action .0) (post .0) guarded (now (guard .entry)) limits .answer) × (now (t .exit) ≡ addTransitionOf (now (t .entry)) (pre .0) (action .0) (post .0) guarded (now (guard .entry)) limits .table) ⌝ }
+{
+    let l = pre.0;
+    let a = action.0;
+    let m = post.0;
+    let check = checks::transition_check(t, l, a, m, guarded, guard, limits);
+    if let Done::Refused(r) = check {
+        return Done::Refused(r);
+    }
+    let key = transitions::key(l as u64, a, m as u64);
+    if guarded {
+        transitions::put_transition(t, key, guard, limits);
+        return Done::Accepted;
+    }
+    transitions::put_transition(t, key, &guard[0..0], limits);
+    Done::Accepted
+}
+
+pub fn add_transition(
+    t: &mut [u64],
+    pre: Location,
+    action: Action,
+    post: Location,
+    guarded: bool,
+    guard: &[u64],
+) -> Done
+    ensures { λ r. ⌜ (r ≡ addTransitionOf (now (t .entry)) (pre .0) (action .0) (post .0) guarded (now (guard .entry)) noLimits .answer) × (now (t .exit) ≡ addTransitionOf (now (t .entry)) (pre .0) (action .0) (post .0) guarded (now (guard .entry)) noLimits .table) ⌝ }
+{
+    add_timed_transition(t, pre, action, post, guarded, guard, Limits::none())
+}
+
+// A transition by the reserved action.
+pub fn add_autonomous_timed_transition(
+    t: &mut [u64],
+    pre: Location,
+    post: Location,
+    guarded: bool,
+    guard: &[u64],
+    limits: Limits,
+) -> Done
+    ensures { λ r. ⌜ (r ≡ addTransitionOf (now (t .entry)) (pre .0) epsilon (post .0) guarded (now (guard .entry)) limits .answer) × (now (t .exit) ≡ addTransitionOf (now (t .entry)) (pre .0) epsilon (post .0) guarded (now (guard .entry)) limits .table) ⌝ }
+{
+    add_timed_transition(t, pre, Action::EPSILON, post, guarded, guard, limits)
+}
+
+pub fn add_autonomous_transition(
+    t: &mut [u64],
+    pre: Location,
+    post: Location,
+    guarded: bool,
+    guard: &[u64],
+) -> Done
+    ensures { λ r. ⌜ (r ≡ addTransitionOf (now (t .entry)) (pre .0) epsilon (post .0) guarded (now (guard .entry)) noLimits .answer) × (now (t .exit) ≡ addTransitionOf (now (t .entry)) (pre .0) epsilon (post .0) guarded (now (guard .entry)) noLimits .table) ⌝ }
+{
+    add_transition(t, pre, Action::EPSILON, post, guarded, guard)
 }

@@ -1,4 +1,4 @@
 // One program graph: building it. Its table is lent.
 pub mod answers;
 pub mod builder;
-pub mod inner;
+mod checks;

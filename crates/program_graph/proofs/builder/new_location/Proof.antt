@@ -1,3 +1,4 @@
+use Rattle.graph_edits.specs.Edits.{withLimits}
 use mathlib.Core.Bool.{true}
 use borrow.Author.Tests.{lt-ltb, le-ltb}
 use Rattle.laws.proofs.Tests.{held, failed}
@@ -42,7 +43,7 @@ slice-write-t-2 : tie.Need-slice-write-t-2
 slice-write-t-2 c = simp length-set (omega (arith, long c))
 
 returns-3 : tie.Need-returns-3
-unfolding newLocationOf
+unfolding newLocationOf withLimits
 returns-3 c =
     let e = c in
     let n = e .before in

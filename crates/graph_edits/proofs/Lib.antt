@@ -1,0 +1,14 @@
+pub mod RowLaws
+pub mod ReadLaws
+pub mod PlaceLaws
+pub mod LimitLaws
+pub mod GrownFormed
+pub mod SpareFormed
+pub mod PartsFormed
+pub mod ResetFormed
+pub mod LocationFormed
+pub mod TransitionFormed
+pub mod ExpressionLaws
+pub mod ActionLaws
+pub mod EffectFormed
+pub mod MessageFormed

@@ -1,0 +1,129 @@
+-- A table that is well formed stays so with a clock, a process, a variable or a plain action more.
+use Prim.Native.Nat.{ℕ, _+_, _*_, _<_}
+use mathlib.Core.Path.{_≡_, refl, _∙_}
+use mathlib.Core.Bool.{true, cond}
+use mathlib.Core.List.{List}
+use native.Mathlib.Omega.{arith}
+use borrow.Author.Tests.{lt-ltb}
+use lib.Dec.{eqb, ltb}
+use lib.ListN.{set, length-set}
+use lib.Seq.{getD-set-same, getD-set-other}
+use Rattle.laws.specs.Below.{_and_, allBelow}
+use Rattle.laws.proofs.BelowLaws.{and-both, all-none, all-kept, sum-none}
+use Rattle.graph_tables.specs.Words.{Words, variableCount, clockCount, locationCount, actionCount, processCount, invariantCount, placeAt, kindAt, valueAt, actionKind, resetCount, effectCount}
+use Rattle.graph_tables.specs.Formed.{variableFormed, zeroInside, processFormed, resetsFormed, plainFormed, actionFormed}
+use Rattle.graph_tables.proofs.KeptLaws.{Formed, zero-kept}
+use Rattle.graph_edits.specs.Edits.{withVar, withClock, withProcess, withAction}
+use Rattle.graph_edits.proofs.GrownFormed.{LocationStands, few-invariants}
+use Rattle.graph_edits.proofs.SpareFormed.{Spare, Agrees, spare-kind, spare-value, spare-place, spare-action, set-agrees, locations-agree, agrees-formed, raised-formed}
+
+pub clock-formed : (t : List ℕ) → Formed t → clockCount t < 8 → Formed (withClock t)
+clock-formed t formed room =
+    raised-formed t 1 (clockCount t) formed (omega arith) refl (omega arith)
+    (λ e. absurd (omega arith)) (λ e. absurd (omega arith)) (λ e. absurd (omega arith)) (λ e. absurd (omega arith))
+
+pub process-formed : (t : List ℕ) (l : ℕ) → Formed t → processCount t < 4 → l < locationCount t → allBelow (invariantCount t l) (zeroInside t (128 + l)) ≡ true → Formed (withProcess t l)
+unfolding processFormed
+process-formed t l formed room known inside =
+    raised-formed u 4 n (agrees-formed t u formed words agrees) (omega arith) (agrees 4 (λ s. omega arith)) (omega arith)
+    (λ e. absurd (omega arith))
+    (λ e. absurd (omega arith))
+    (λ e. absurd (omega arith))
+    (λ e.
+    rw (place, agrees 2 (λ s. omega arith), stands .count)
+    (and-both (lt-ltb _ _ known)
+    (all-kept (zeroInside t (128 + l)) (zeroInside u (128 + l)) (invariantCount t l)
+    (λ i m z. zero-kept t u (128 + l) (128 + l) (stands .group) i (omega (arith, few-invariants t l (formed .location l known))) ∙ z)
+    inside)))
+  where
+    n : ℕ
+    n = processCount t
+
+    u : List ℕ
+    u = set t (38 + n) l
+
+    words : Words u
+    words = simp length-set (formed .words)
+
+    agrees : Agrees t u
+    agrees = set-agrees t t (38 + n) l (spare-place t (formed .counts) room) (λ j used. refl)
+
+    place : placeAt u n ≡ l
+    place = getD-set-same t (38 + n) l 0 (omega arith)
+
+    stands : LocationStands t u l
+    stands = locations-agree t u formed words agrees l known
+
+-- ---- a variable
+pub var-formed : (t : List ℕ) (kind value : ℕ) → Formed t → variableCount t < 16 → cond (eqb kind 0) (ltb value 2) (eqb kind 1 and ltb value 4294967296) ≡ true → Formed (withVar t kind value)
+unfolding variableFormed
+var-formed t kind value formed room fits =
+    raised-formed u 0 n (agrees-formed t u formed words agrees) (omega arith) (agrees 0 (λ s. omega arith)) (omega arith)
+    (λ e. rw (kind-at, value-at) fits) (λ e. absurd (omega arith)) (λ e. absurd (omega arith)) (λ e. absurd (omega arith))
+  where
+    n : ℕ
+    n = variableCount t
+
+    u : List ℕ
+    u = set (set t (6 + n) kind) (22 + n) value
+
+    words : Words u
+    words = simp length-set (formed .words)
+
+    agrees : Agrees t u
+    agrees =
+        set-agrees t (set t (6 + n) kind) (22 + n) value (spare-value t (formed .counts) room)
+        (set-agrees t t (6 + n) kind (spare-kind t (formed .counts) room) (λ j used. refl))
+
+    kind-at : kindAt u n ≡ kind
+    kind-at = getD-set-other (set t (6 + n) kind) (22 + n) (6 + n) value 0 (λ e. omega arith) ∙ getD-set-same t (6 + n) kind 0 (omega arith)
+
+    value-at : valueAt u n ≡ value
+    value-at = getD-set-same (set t (6 + n) kind) (22 + n) value 0 (simp length-set (omega arith))
+
+-- ---- an action
+-- its first words
+abbrev actionRow : List ℕ → ℕ → ℕ → List ℕ
+actionRow t kind count = set (set (set t (74 + 51 * actionCount t) kind) (75 + 51 * actionCount t) 0) (76 + 51 * actionCount t) count
+
+module _ (t : List ℕ) (kind count : ℕ) (formed : Formed t) (room : actionCount t < 32) where
+  abbrev n : ℕ
+  n = actionCount t
+
+  abbrev u : List ℕ
+  u = actionRow t kind count
+
+  row-kind : actionKind u n ≡ kind
+  row-kind =
+      getD-set-other (set (set t (74 + 51 * n) kind) (75 + 51 * n) 0) (76 + 51 * n) (74 + 51 * n) count 0 (λ e. omega arith)
+      ∙ getD-set-other (set t (74 + 51 * n) kind) (75 + 51 * n) (74 + 51 * n) 0 0 (λ e. omega arith)
+      ∙ getD-set-same t (74 + 51 * n) kind 0 (omega arith)
+
+  row-resets : resetCount u n ≡ 0
+  row-resets =
+      getD-set-other (set (set t (74 + 51 * n) kind) (75 + 51 * n) 0) (76 + 51 * n) (75 + 51 * n) count 0 (λ e. omega arith)
+      ∙ getD-set-same (set t (74 + 51 * n) kind) (75 + 51 * n) 0 0 (simp length-set (omega arith))
+
+  row-effects : effectCount u n ≡ count
+  row-effects = getD-set-same (set (set t (74 + 51 * n) kind) (75 + 51 * n) 0) (76 + 51 * n) count 0 (simp length-set (omega arith))
+
+  spare-word : (i j : ℕ) → i < 51 → j ≡ 74 + 51 * n + i → Spare t j
+  spare-word i j l e = rw e (spare-action t (formed .counts) room i l)
+
+  row-agrees : Agrees t u
+  row-agrees =
+      set-agrees t (set (set t (74 + 51 * n) kind) (75 + 51 * n) 0) (76 + 51 * n) count (spare-word 2 _ (omega arith) (omega arith))
+      (set-agrees t (set t (74 + 51 * n) kind) (75 + 51 * n) 0 (spare-word 1 _ (omega arith) (omega arith))
+      (set-agrees t t (74 + 51 * n) kind (spare-word 0 _ (omega arith) (omega arith)) (λ j used. refl)))
+
+  row-formed : actionFormed u n ≡ true → Formed (withAction t kind count)
+  row-formed action =
+      raised-formed u 3 n (agrees-formed t u formed (simp length-set (formed .words)) row-agrees) (omega arith) (row-agrees 3 (λ s. omega arith)) (omega arith)
+      (λ e. absurd (omega arith)) (λ e. absurd (omega arith)) (λ e. action) (λ e. absurd (omega arith))
+
+pub action-formed : (t : List ℕ) → Formed t → actionCount t < 32 → Formed (withAction t 0 0)
+unfolding actionFormed plainFormed resetsFormed
+action-formed t formed room =
+    row-formed t 0 0 formed room
+    (rw (row-kind t 0 0 formed room, row-resets t 0 0 formed room, row-effects t 0 0 formed room)
+    (and-both (and-both refl (all-none _)) (and-both refl (and-both (all-none _) (rw sum-none)))))

@@ -1,0 +1,185 @@
+-- Each building call keeps a table well formed: the parts of the theorem.
+use Prim.Native.Nat.{ℕ, _+_, _*_, _/_, _<_, _≤_}
+use mathlib.Core.Path.{_≡_, refl, sym, subst}
+use mathlib.Core.Bool.{Bool, true, false, cond, _||_}
+use mathlib.Core.List.{List}
+use native.Mathlib.Omega.{arith}
+use borrow.Author.Tests.{eqb-true, ltb-true, lt-ltb}
+use lib.Dec.{eqb, ltb}
+use lib.ListN.{length}
+use Rattle.laws.specs.Ladder.{unless}
+use Rattle.laws.specs.Below.{_and_, allBelow}
+use Rattle.laws.proofs.BelowLaws.{and-both}
+use Rattle.grammar.specs.Values.{kindOf, kindWord}
+use Rattle.grammar.specs.declared.values.Val.{Val}
+use Rattle.grammar.specs.declared.values.Val.the-variants.{Boolean, Integer}
+use Rattle.graph_tables.specs.declared.refusals.Refusal.the-variants.{BadState, TableFull, MissingLocation, Invariant}
+use Rattle.graph_tables.specs.declared.handed.Limits.{Limits}
+use Rattle.graph_tables.specs.declared.handed.Vars.{Vars}
+use Rattle.graph_tables.specs.Handed.{noLimits}
+use Rattle.graph_tables.specs.Words.{variableCount, clockCount, locationCount, actionCount, processCount, invariantCount, preOf, actionOf, postOf, epsilon}
+use Rattle.graph_tables.specs.Formed.{wellFormed, zeroInside, actionKnown, keyFormed}
+use Rattle.graph_tables.proofs.KeptLaws.{Formed, apart, together}
+use Rattle.graph_edits.specs.Edits.{LimitsFit, withProcess, keyWith, clocksKnown}
+use Rattle.graph_edits.proofs.PartsFormed.{var-formed, clock-formed, action-formed, process-formed}
+use Rattle.graph_edits.proofs.ResetFormed.{reset-formed}
+use Rattle.graph_edits.proofs.LocationFormed.{location-formed, initial-formed}
+use Rattle.graph_edits.proofs.EffectFormed.{effect-formed}
+use Rattle.graph_edits.proofs.MessageFormed.{send-formed, receive-formed}
+use Rattle.graph_edits.proofs.TransitionFormed.{GuardFits, transition-formed}
+use Rattle.program_graph.specs.declared.answers.Done.{Done}
+use Rattle.program_graph.specs.declared.answers.Done.the-variants.{Accepted, Refused}
+use Rattle.program_graph.specs.Checks.{resetCheck, effectCheck, sendCheck, receiveCheck, locationCheck, initialCheck, transitionCheck}
+use Rattle.program_graph.specs.Building.{Outcome, refusedWith, placedAt, notDone, doneWith, doneIf, placedIf, payloadOf, newVarOf, newClockOf, newActionOf, newLocationOf, newProcessOf, addResetOf, addEffectOf, newSendOf, newReceiveOf, newTimedLocationOf, newInitialOf, guardOf, addTransitionOf}
+use Rattle.program_graph.proofs.ReadyActions.{reset-ready, effect-ready, send-ready, receive-ready}
+use Rattle.program_graph.proofs.ReadyParts.{location-ready, initial-ready, GuardReady, transition-ready}
+
+abbrev WellFormed : List ℕ → Type 0
+WellFormed t = wellFormed t true ≡ true
+
+-- ---- ladders: a rung that refuses leaves the table
+rung : {A : Type 0} (t : List ℕ) (b : Bool) (refused rest : Outcome A) → refused .table ≡ t → WellFormed t → (b ≡ true → WellFormed (rest .table)) → WellFormed (unless b refused rest .table)
+unfolding unless
+rung t true refused rest e h k = k refl
+rung t false refused rest e h k = subst WellFormed (sym e) h
+
+done-keeps : (c : Done) (t u : List ℕ) → WellFormed t → (c ≡ Accepted → Formed u) → WellFormed (doneIf c t u .table)
+done-keeps Accepted t u h k = together u (k refl)
+done-keeps (Refused r) t u h k = h
+
+placed-keeps : (c : Done) (t : List ℕ) (n : ℕ) (u : List ℕ) → WellFormed t → (c ≡ Accepted → Formed u) → WellFormed (placedIf c t n u .table)
+placed-keeps Accepted t n u h k = together u (k refl)
+placed-keeps (Refused r) t n u h k = h
+
+-- a part more, where there is room for it
+part-keeps : (t : List ℕ) (n size : ℕ) (u : List ℕ) → WellFormed t → (n < size → Formed u)
+    → WellFormed (unless (wellFormed t true) (refusedWith BadState t) (unless (ltb n size) (refusedWith TableFull t) (placedAt n u)) .table)
+part-keeps t n size u h k =
+    rung t (wellFormed t true) _ _ refl h (λ e. rung t (ltb n size) (refusedWith TableFull t) (placedAt n u) refl h (λ l. together u (k (ltb-true n size l))))
+
+-- a value's kind and bits
+val-formed : (v : Val) → payloadOf v < 4294967296
+    → cond (eqb (kindWord (kindOf v)) 0) (ltb (payloadOf v) 2) (eqb (kindWord (kindOf v)) 1 and ltb (payloadOf v) 4294967296) ≡ true
+val-formed (Boolean false) h = refl
+val-formed (Boolean true) h = refl
+val-formed (Integer n) h = and-both refl (lt-ltb _ _ h)
+
+module _ (t : List ℕ) (h : WellFormed t) where
+  pub var-keeps : (v : Val) → payloadOf v < 4294967296 → WellFormed (newVarOf t v .table)
+  unfolding newVarOf
+  var-keeps v fit = part-keeps t (variableCount t) 16 _ h (λ room. var-formed t _ _ (apart t true h) room (val-formed v fit))
+
+  pub clock-keeps : WellFormed (newClockOf t .table)
+  unfolding newClockOf
+  clock-keeps = part-keeps t (clockCount t) 8 _ h (λ room. clock-formed t (apart t true h) room)
+
+  pub action-keeps : WellFormed (newActionOf t .table)
+  unfolding newActionOf
+  action-keeps = part-keeps t (actionCount t) 32 _ h (λ room. action-formed t (apart t true h) room)
+
+  pub process-keeps : (l : ℕ) → WellFormed (newProcessOf t l .table)
+  unfolding newProcessOf
+  process-keeps l =
+      rung t (wellFormed t true) (notDone BadState t) _ refl h (λ e.
+      rung t (ltb l (locationCount t)) (notDone MissingLocation t) _ refl h (λ known.
+      rung t (allBelow (invariantCount t l) (zeroInside t (128 + l))) (notDone Invariant t) _ refl h (λ inside.
+      rung t (ltb (processCount t) 4) (notDone TableFull t) (doneWith (withProcess t l)) refl h (λ room.
+      together _ (process-formed t l (apart t true h) (ltb-true _ _ room) (ltb-true _ _ known) inside)))))
+
+  pub reset-keeps : (a clock : ℕ) → WellFormed (addResetOf t a clock .table)
+  unfolding addResetOf
+  reset-keeps a clock =
+      done-keeps (resetCheck t a clock) t _ h (λ e.
+      let r = reset-ready t a clock e in
+      reset-formed t a clock (apart t true h) (r .action .0) (r .action .1) (r .room) (r .clock-known))
+
+  pub effect-keeps : (a v : ℕ) (ws : List ℕ) → WellFormed (addEffectOf t a v ws .table)
+  unfolding addEffectOf
+  effect-keeps a v ws =
+      done-keeps (effectCheck t a v ws) t _ h (λ e.
+      let r = effect-ready t a v ws e in
+      effect-formed t a v ws (apart t true h) (r .known) (r .plain) (r .few) (r .var) (r .short) (r .typed) (r .draws))
+
+  pub send-keeps : (m : ℕ → List ℕ) (count : ℕ) → WellFormed (newSendOf t m count .table)
+  unfolding newSendOf
+  send-keeps m count =
+      placed-keeps (sendCheck t m count) t _ _ h (λ e.
+      let r = send-ready t m count e in
+      send-formed t m count (apart t true h) (r .room) (r .few) (r .expression) (r .draws))
+
+  pub receive-keeps : (v : Vars) → WellFormed (newReceiveOf t v .table)
+  unfolding newReceiveOf
+  receive-keeps v =
+      placed-keeps (receiveCheck t v) t _ _ h (λ e.
+      let r = receive-ready t v e in
+      receive-formed t v (apart t true h) (r .room) (r .few) (r .var))
+
+  pub timed-location-keeps : (l : Limits) → LimitsFit l → WellFormed (newTimedLocationOf t l .table)
+  unfolding newTimedLocationOf
+  timed-location-keeps l fit =
+      placed-keeps (locationCheck t l) t _ _ h (λ e.
+      let r = location-ready t l e in
+      location-formed t l (apart t true h) (r .room) (r .limits .0) (r .limits .1) fit)
+
+  pub initial-keeps : (l : Limits) → LimitsFit l → WellFormed (newInitialOf t l .table)
+  unfolding newInitialOf
+  initial-keeps l fit =
+      placed-keeps (initialCheck t l) t _ _ h (λ e.
+      let r = initial-ready t l e in
+      initial-formed t l (apart t true h) (r .location .room) (r .location .limits .0) (r .location .limits .1) fit (r .room) (r .inside))
+
+-- an empty list of limits is of known clocks
+none-known : (t : List ℕ) → clocksKnown t noLimits ≡ true
+unfolding clocksKnown allBelow
+none-known t = refl
+
+pub location-keeps : (t : List ℕ) → WellFormed t → WellFormed (newLocationOf t .table)
+unfolding newLocationOf
+location-keeps t h =
+    part-keeps t (locationCount t) 32 _ h (λ room.
+    location-formed t noLimits (apart t true h) room (omega arith) (none-known t) (λ i l. absurd (omega arith)))
+
+-- ---- transitions: a key has its parts
+known-small : (t : List ℕ) (a : ℕ) → actionCount t ≤ 32 → actionKnown t a ≡ true → a < 4294967296
+unfolding actionKnown
+known-small t a few h = by (eqb a epsilon) refl h
+  where
+    by : (x : Bool) → eqb a epsilon ≡ x → (x || ltb a (actionCount t)) ≡ true → a < 4294967296
+    by true e k = omega (arith, eqb-true a epsilon e)
+    by false e k = omega (arith, ltb-true a (actionCount t) k)
+
+module _ (pre a post : ℕ) (p : pre < 32) (q : a < 4294967296) (r : post < 32) where
+  key-pre : preOf (keyWith pre a post) ≡ pre
+  key-pre = omega arith
+
+  key-action : actionOf (keyWith pre a post) ≡ a
+  key-action =
+      let e : keyWith pre a post / 32 ≡ pre * 4294967296 + a = omega arith in
+      rw e (omega arith)
+
+  key-post : postOf (keyWith pre a post) ≡ post
+  key-post = omega arith
+
+key-formed : (t : List ℕ) (pre a post : ℕ) → Formed t → pre < locationCount t → post < locationCount t → actionKnown t a ≡ true → keyFormed t (keyWith pre a post) ≡ true
+unfolding keyFormed
+key-formed t pre a post f from to by =
+    let small : a < 4294967296 = known-small t a (f .counts .actions) by in
+    let m = f .counts .locations in
+    let p : pre < 32 = omega arith in
+    let r : post < 32 = omega arith in
+    and-both (rw (key-pre pre a post p small r) (lt-ltb _ _ from))
+    (and-both (rw (key-post pre a post p small r) (lt-ltb _ _ to)) (rw (key-action pre a post p small r) by))
+
+guard-fits : (t : List ℕ) (guarded : Bool) (ws : List ℕ) → (guarded ≡ true → GuardReady t ws) → (length (guardOf guarded ws) ≤ 64) × GuardFits t (guardOf guarded ws)
+guard-fits t true ws g = let r = g refl in (r .short, λ some. (r .typed, r .no-draws))
+guard-fits t false ws g = (omega arith, λ some. absurd (omega arith))
+
+pub transition-keeps : (t : List ℕ) → WellFormed t → (pre a post : ℕ) (guarded : Bool) (ws : List ℕ) (l : Limits) → LimitsFit l
+    → WellFormed (addTransitionOf t pre a post guarded ws l .table)
+unfolding addTransitionOf
+transition-keeps t h pre a post guarded ws l fit =
+    done-keeps (transitionCheck t pre a post guarded ws l) t _ h (λ e.
+    let r = transition-ready t pre a post guarded ws l e in
+    let f = apart t true h in
+    let g = guard-fits t guarded ws (r .guard) in
+    transition-formed t (keyWith pre a post) (guardOf guarded ws) l f (r .room) (key-formed t pre a post f (r .from) (r .to) (r .by)) (g .0) (g .1) (r .limits .0) (r .limits .1) fit)
