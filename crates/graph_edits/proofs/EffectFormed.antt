@@ -12,7 +12,7 @@ use Rattle.laws.specs.Below.{allBelow, sumBelow}
 use Rattle.laws.proofs.BelowLaws.{and-first, and-rest, and-both, all-more, sum-more}
 use Rattle.grammar.specs.Draws.{drawsOf}
 use Rattle.grammar.specs.Typing.{typeOf}
-use Rattle.graph_tables.specs.Words.{variableCount, actionCount, kindAt, kindsOf, actionKind, resetCount, effectCount, effectVar, effectLength, effectItems}
+use Rattle.graph_tables.specs.Words.{Words, variableCount, actionCount, kindAt, kindsOf, actionKind, resetCount, effectCount, effectVar, effectLength, effectItems}
 use Rattle.graph_tables.specs.Formed.{resetsFormed, typedAs, effectFormed, effectDraws, plainFormed, actionFormed}
 use Rattle.graph_tables.proofs.FormedLaws.{short-effects}
 use Rattle.graph_tables.proofs.KeptLaws.{Formed, Grown, ItemsKept, items-moved, typed-as-grown, resets-kept, effects-kept, draws-kept}
@@ -33,7 +33,7 @@ formed-plain : (t : List ℕ) (a : ℕ) → actionKind t a ≡ 0 → plainFormed
 unfolding actionFormed
 formed-plain t a kind h = rw kind h
 
-module _ (t : List ℕ) (a v : ℕ) (ws : List ℕ) (formed : Formed t) (in-t : a < actionCount t) (plain : actionKind t a ≡ 0) (room : effectCount t a < 16) (known : v < variableCount t) (short : length ws ≤ 64) where
+module _ (t : List ℕ) (a v : ℕ) (ws : List ℕ) (words : Words t) (low : a < 32) (room : effectCount t a < 16) (short : length ws ≤ 64) where
   abbrev n : ℕ
   n = effectCount t a
 
@@ -46,47 +46,29 @@ module _ (t : List ℕ) (a v : ℕ) (ws : List ℕ) (formed : Formed t) (in-t : 
   abbrev u : List ℕ
   u = withEffect t a v ws
 
-  low : a < 32
-  low = omega arith
-
   put : Expression t a n ws x
-  put = expression t a n ws (formed .words) low room short
+  put = expression t a n ws words low room short
 
   -- another word
   apart-from : (j : ℕ) → Apart a n j → j ≢ 93 + 51 * a + n → j ≢ 76 + 51 * a → getD u j 0 ≡ getD t j 0
   apart-from j apart p q = getD-set-other y (76 + 51 * a) j (n + 1) 0 q ∙ getD-set-other x (93 + 51 * a + n) j v 0 p ∙ put .other j apart
 
   -- a word before the items
-  row : (j : ℕ) → (j < 14122) × (j ≢ 109 + 51 * a + n) × (j ≢ 93 + 51 * a + n) × (j ≢ 76 + 51 * a) → getD u j 0 ≡ getD t j 0
+  pub row : (j : ℕ) → (j < 14122) × (j ≢ 109 + 51 * a + n) × (j ≢ 93 + 51 * a + n) × (j ≢ 76 + 51 * a) → getD u j 0 ≡ getD t j 0
   row j r = apart-from j (apart-row a n j (r .0) (r .1)) (r .2) (r .3)
 
   -- the items of another expression
-  items : (b e : ℕ) → 32 * e + b ≢ 32 * n + a → ItemsKept t u b e
+  pub items : (b e : ℕ) → 32 * e + b ≢ 32 * n + a → ItemsKept t u b e
   items b e other k l =
       apart-from (14122 + 64 * (32 * e + b) + k) (apart-item a n b e k low room l other) (omega (arith, low)) (omega (arith, low))
 
-  around : Around t u a
-  around =
-      let same : actionCount u ≡ actionCount t = row 3 (omega arith) in
-      record {
-        words = length-set y _ _ ∙ length-set x _ _ ∙ put .words;
-        more = omega arith;
-        few = omega arith;
-        others = λ b l other. omega arith;
-        row = λ j l three out. row j (l, λ q. out (35 + n) (omega arith) (omega arith), λ q. out (19 + n) (omega arith) (omega arith), λ q. out 2 (omega arith) (omega arith));
-        items = λ b e l other. items b e (omega arith);
-      }
+  pub all-words : Words u
+  all-words = length-set y _ _ ∙ length-set x _ _ ∙ put .words
 
-  grown : Grown t u
-  grown = around-grown t u a low formed around
-
-  kind : actionKind u a ≡ 0
-  kind = row (74 + 51 * a) (omega (arith, low)) ∙ plain
-
-  count : effectCount u a ≡ n + 1
+  pub count : effectCount u a ≡ n + 1
   count = getD-set-same y (76 + 51 * a) (n + 1) 0 (simp length-set (omega (arith, low, put .words)))
 
-  variable : effectVar u a n ≡ v
+  pub variable : effectVar u a n ≡ v
   variable =
       getD-set-other y (76 + 51 * a) (93 + 51 * a + n) (n + 1) 0 (omega arith)
       ∙ getD-set-same x (93 + 51 * a + n) v 0 (omega (arith, low, put .words))
@@ -97,41 +79,64 @@ module _ (t : List ℕ) (a v : ℕ) (ws : List ℕ) (formed : Formed t) (in-t : 
       getD-set-other y (76 + 51 * a) (109 + 51 * a + n) (n + 1) 0 (omega arith)
       ∙ getD-set-other x (93 + 51 * a + n) (109 + 51 * a + n) v 0 (omega arith)
 
-  same-items : effectItems u a n ≡ ws
+  pub same-items : effectItems u a n ≡ ws
   same-items =
       let at = 14122 + 64 * (32 * n + a) in
       rw long
-      (items-moved x u at at 64 (effectLength x a n) (rw (put .long) short) (omega (arith, low, put .words)) (omega (arith, low, around .words))
+      (items-moved x u at at 64 (effectLength x a n) (rw (put .long) short) (omega (arith, low, put .words)) (omega (arith, low, all-words))
       (λ k l.
       getD-set-other y (76 + 51 * a) (at + k) (n + 1) 0 (omega (arith, low))
       ∙ getD-set-other x (93 + 51 * a + n) (at + k) v 0 (omega (arith, low))))
       ∙ put .items
 
-  new-formed : typedAs (kindAt t v) (typeOf (kindsOf t) ws) ≡ true → effectFormed u a n ≡ true
-  unfolding effectFormed
-  new-formed typed =
-      rw (same-items, variable, long ∙ put .long, grown .kinds v known)
-      (and-both (lt-ltb v (variableCount u) (omega (arith, grown .variables))) (and-both (le-leb _ _ short) (typed-as-grown grown (kindAt t v) ws typed)))
+  pub around : actionCount t ≤ 32 → Around t u a
+  around few =
+      let same : actionCount u ≡ actionCount t = row 3 (omega arith) in
+      record {
+        words = all-words;
+        more = omega arith;
+        few = omega arith;
+        others = λ b l other. omega arith;
+        row = λ j l three out. row j (l, λ q. out (35 + n) (omega arith) (omega arith), λ q. out (19 + n) (omega arith) (omega arith), λ q. out 2 (omega arith) (omega arith));
+        items = λ b e l other. items b e (omega arith);
+      }
 
-  plain-kept : typedAs (kindAt t v) (typeOf (kindsOf t) ws) ≡ true → sumBelow n (effectDraws t a) + drawsOf ws ≤ 64 → plainFormed t a ≡ true → plainFormed u a ≡ true
-  unfolding plainFormed effectDraws
-  plain-kept typed draws h =
-      let all : allBelow n (effectFormed t a) ≡ true = and-first _ _ (and-rest _ _ (and-rest _ _ h)) in
-      let most : resetCount t a ≤ 16 = few-resets t a (and-first _ _ h) in
-      let same : (e : ℕ) → e < n → effectLength u a e ≡ effectLength t a e = λ e l. row (109 + 51 * a + e) (omega (arith, low)) in
-      let each : (e : ℕ) → e < n → ItemsKept t u a e = λ e l. items a e (omega arith) in
-      let vars : (e : ℕ) → e < n → effectVar u a e ≡ effectVar t a e = λ e l. row (93 + 51 * a + e) (omega (arith, low)) in
-      let sum : sumBelow n (effectDraws u a) ≡ sumBelow n (effectDraws t a) = draws-kept grown a low n (omega arith) same each (short-effects t a n all) in
-      rw count
-      (and-both
-      (resets-kept grown a
-      (row (75 + 51 * a) (omega (arith, low)))
-      (λ i l. row (77 + 51 * a + i) (omega (arith, low)))
-      (and-first _ _ h))
-      (and-both (le-leb (n + 1) 16 (omega arith))
-      (and-both (all-more (effectFormed u a) n (effects-kept grown a low n (omega arith) same each vars all) (new-formed typed))
-      (le-leb (sumBelow (n + 1) (effectDraws u a)) 64 (rw (sum-more (effectDraws u a) n, sum, same-items) draws)))))
+  module _ (formed : Formed t) (in-t : a < actionCount t) (plain : actionKind t a ≡ 0) (known : v < variableCount t) where
+    grown : Grown t u
+    grown = around-grown t u a low formed (around (formed .counts .actions))
 
-  pub effect-formed : typedAs (kindAt t v) (typeOf (kindsOf t) ws) ≡ true → sumBelow (effectCount t a) (effectDraws t a) + drawsOf ws ≤ 64 → Formed (withEffect t a v ws)
-  effect-formed typed draws =
-      around-formed t u a low formed around (formed-plain u a kind (plain-kept typed draws (plain-formed t a plain (formed .action a in-t))))
+    kind : actionKind u a ≡ 0
+    kind = row (74 + 51 * a) (omega (arith, low)) ∙ plain
+
+    new-formed : typedAs (kindAt t v) (typeOf (kindsOf t) ws) ≡ true → effectFormed u a n ≡ true
+    unfolding effectFormed
+    new-formed typed =
+        rw (same-items, variable, long ∙ put .long, grown .kinds v known)
+        (and-both (lt-ltb v (variableCount u) (omega (arith, grown .variables))) (and-both (le-leb _ _ short) (typed-as-grown grown (kindAt t v) ws typed)))
+
+    plain-kept : typedAs (kindAt t v) (typeOf (kindsOf t) ws) ≡ true → sumBelow n (effectDraws t a) + drawsOf ws ≤ 64 → plainFormed t a ≡ true → plainFormed u a ≡ true
+    unfolding plainFormed effectDraws
+    plain-kept typed draws h =
+        let all : allBelow n (effectFormed t a) ≡ true = and-first _ _ (and-rest _ _ (and-rest _ _ h)) in
+        let most : resetCount t a ≤ 16 = few-resets t a (and-first _ _ h) in
+        let same : (e : ℕ) → e < n → effectLength u a e ≡ effectLength t a e = λ e l. row (109 + 51 * a + e) (omega (arith, low)) in
+        let each : (e : ℕ) → e < n → ItemsKept t u a e = λ e l. items a e (omega arith) in
+        let vars : (e : ℕ) → e < n → effectVar u a e ≡ effectVar t a e = λ e l. row (93 + 51 * a + e) (omega (arith, low)) in
+        let sum : sumBelow n (effectDraws u a) ≡ sumBelow n (effectDraws t a) = draws-kept grown a low n (omega arith) same each (short-effects t a n all) in
+        rw count
+        (and-both
+        (resets-kept grown a
+        (row (75 + 51 * a) (omega (arith, low)))
+        (λ i l. row (77 + 51 * a + i) (omega (arith, low)))
+        (and-first _ _ h))
+        (and-both (le-leb (n + 1) 16 (omega arith))
+        (and-both (all-more (effectFormed u a) n (effects-kept grown a low n (omega arith) same each vars all) (new-formed typed))
+        (le-leb (sumBelow (n + 1) (effectDraws u a)) 64 (rw (sum-more (effectDraws u a) n, sum, same-items) draws)))))
+
+    whole : typedAs (kindAt t v) (typeOf (kindsOf t) ws) ≡ true → sumBelow n (effectDraws t a) + drawsOf ws ≤ 64 → Formed u
+    whole typed draws =
+        around-formed t u a low formed (around (formed .counts .actions)) (formed-plain u a kind (plain-kept typed draws (plain-formed t a plain (formed .action a in-t))))
+
+pub effect-formed : (t : List ℕ) (a v : ℕ) (ws : List ℕ) → Formed t → a < actionCount t → actionKind t a ≡ 0 → effectCount t a < 16 → v < variableCount t → length ws ≤ 64
+    → typedAs (kindAt t v) (typeOf (kindsOf t) ws) ≡ true → sumBelow (effectCount t a) (effectDraws t a) + drawsOf ws ≤ 64 → Formed (withEffect t a v ws)
+effect-formed t a v ws formed in-t plain room known short = whole t a v ws (formed .words) (omega arith) room short formed in-t plain known

@@ -106,14 +106,14 @@ pub record Around (t u : List ℕ) (a : ℕ) : Type 0 where
 
 module _ (t u : List ℕ) (a : ℕ) (known : a < 32) (formed : Formed t) (around : Around t u a) where
   -- the words before the actions, and those between them and the items
-  front : (j : ℕ) → (j < 74) × (j ≢ 3) → getD u j 0 ≡ getD t j 0
+  pub front : (j : ℕ) → (j < 74) × (j ≢ 3) → getD u j 0 ≡ getD t j 0
   front j l = around .row j (omega arith) (l .1) (omega arith)
 
   back : (j : ℕ) → (1706 ≤ j) × (j < 14122) → getD u j 0 ≡ getD t j 0
   back j l = around .row j (l .1) (omega arith) (omega arith)
 
   -- the other counts
-  same : (variableCount u ≡ variableCount t) × (clockCount u ≡ clockCount t) × (locationCount u ≡ locationCount t) × (processCount u ≡ processCount t) × (transitionCount u ≡ transitionCount t)
+  pub same : (variableCount u ≡ variableCount t) × (clockCount u ≡ clockCount t) × (locationCount u ≡ locationCount t) × (processCount u ≡ processCount t) × (transitionCount u ≡ transitionCount t)
   same = (front 0 (omega arith), front 1 (omega arith), front 2 (omega arith), front 4 (omega arith), front 5 (omega arith))
 
   pub around-grown : Grown t u
@@ -129,14 +129,14 @@ module _ (t u : List ℕ) (a : ℕ) (known : a < 32) (formed : Formed t) (around
         actions = around .more;
       }
 
-  stands : Stands t u
+  pub stands : Stands t u
   stands = record {
     values = λ v l. front (22 + v) (omega arith);
     locations = λ i l. record { count = front (42 + i) (omega arith); group = λ j h. back (2090 + 24 * (128 + i) + j) (omega arith) };
     places = λ p l. front (38 + p) (omega arith);
   }
 
-  transition-stands : (k : ℕ) → k < transitionCount t → TransitionStands t u k
+  pub transition-stands : (k : ℕ) → k < transitionCount t → TransitionStands t u k
   transition-stands k l = record {
     row = λ j h. back (1706 + 3 * k + j) (omega arith);
     group = λ j h. back (2090 + 24 * k + j) (omega arith);

@@ -12,3 +12,5 @@ pub mod ExpressionLaws
 pub mod ActionLaws
 pub mod EffectFormed
 pub mod MessageFormed
+pub mod ListLaws
+pub mod PartsKept

@@ -160,7 +160,7 @@ module _ (t : List ℕ) (g : ℕ) (l : Limits) (words : Words t) (known : g < 16
       limit-put (withLimits t g l n) g n (handedClock l n) (handedRange l n) (e ∙ words) known few .size ∙ e
 
   -- the table with one limit more
-  next : (n : ℕ) → n < 8
+  pub next : (n : ℕ) → n < 8
       → Put (withLimits t g l n) (withLimits t g l (suc n)) (2090 + 24 * g + 3 * spot n) (2090 + 24 * g + 3 * n)
       (handedClock l n) (boundWord (handedRange l n .lower)) (boundWord (handedRange l n .upper))
   unfolding withLimits

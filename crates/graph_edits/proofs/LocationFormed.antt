@@ -46,22 +46,22 @@ module _ (t : List ℕ) (l : Limits) (words : Words t) (room : locationCount t <
   abbrev limited : List ℕ
   limited = withLimits t (128 + locationCount t) l (l .count)
 
-  limited-same : Outside t limited (5162 + 24 * locationCount t) (5186 + 24 * locationCount t)
+  pub limited-same : Outside t limited (5162 + 24 * locationCount t) (5186 + 24 * locationCount t)
   limited-same =
       outside t limited _ _
       (λ j m. limits-before t (128 + locationCount t) l words (omega arith) (l .count) few j (omega arith))
       (λ j m. limits-after t (128 + locationCount t) l words (omega arith) (l .count) few j (omega arith))
 
-  limited-words : Words limited
+  pub limited-words : Words limited
   limited-words = limits-length t (128 + locationCount t) l words (omega arith) (l .count) few ∙ words
 
-  put-words : Words (withLocation t l)
+  pub put-words : Words (withLocation t l)
   put-words = simp length-set limited-words
 
-  put-count : locationCount (withLocation t l) ≡ locationCount t + 1
+  pub put-count : locationCount (withLocation t l) ≡ locationCount t + 1
   put-count = getD-set-same (set limited (42 + locationCount t) (l .count)) 2 (locationCount t + 1) 0 (simp length-set (omega (arith, limited-words)))
 
-  put-number : invariantCount (withLocation t l) (locationCount t) ≡ l .count
+  pub put-number : invariantCount (withLocation t l) (locationCount t) ≡ l .count
   put-number =
       getD-set-other (set limited (42 + locationCount t) (l .count)) 2 (42 + locationCount t) (locationCount t + 1) 0 (omega arith)
       ∙ getD-set-same limited (42 + locationCount t) (l .count) 0 (omega (arith, limited-words))
@@ -71,11 +71,11 @@ module _ (t : List ℕ) (l : Limits) (words : Words t) (room : locationCount t <
       getD-set-other (set limited (42 + locationCount t) (l .count)) 2 j (locationCount t + 1) 0 (h .0)
       ∙ getD-set-other limited (42 + locationCount t) j (l .count) 0 (h .1)
 
-  put-same : (j : ℕ) → (j ≡ 2 → ⊥) × (j ≡ 42 + locationCount t → ⊥) × (5162 + 24 * locationCount t ≤ j → 5186 + 24 * locationCount t ≤ j)
+  pub put-same : (j : ℕ) → (j ≡ 2 → ⊥) × (j ≡ 42 + locationCount t → ⊥) × (5162 + 24 * locationCount t ≤ j → 5186 + 24 * locationCount t ≤ j)
       → getD (withLocation t l) j 0 ≡ getD t j 0
   put-same j h = put-other j (h .0, h .1) ∙ limited-same j (h .2)
 
-  put-group : GroupMoved limited (withLocation t l) (128 + locationCount t) (128 + locationCount t)
+  pub put-group : GroupMoved limited (withLocation t l) (128 + locationCount t) (128 + locationCount t)
   put-group j m = put-other _ (omega arith)
 
   put-formed : variableCount t ≤ 16 → clocksKnown t l ≡ true → LimitsFit l → locationFormed (withLocation t l) (locationCount t) ≡ true

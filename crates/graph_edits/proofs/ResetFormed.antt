@@ -11,7 +11,7 @@ use lib.ListN.{length, getD, set, length-set}
 use lib.Seq.{getD-set-same, getD-set-other}
 use Rattle.laws.specs.Below.{allBelow}
 use Rattle.laws.proofs.BelowLaws.{and-first, and-rest, and-both, and-kept, all-at, all-from}
-use Rattle.graph_tables.specs.Words.{clockCount, actionCount, actionKind, resetCount, effectCount, resetAt, effectLength}
+use Rattle.graph_tables.specs.Words.{Words, clockCount, actionCount, actionKind, resetCount, effectCount, resetAt, effectLength}
 use Rattle.graph_tables.specs.Formed.{resetBefore, resetFormed, resetsFormed, effectFormed, plainFormed, actionFormed}
 use Rattle.graph_tables.proofs.FormedLaws.{short-effects}
 use Rattle.graph_tables.proofs.KeptLaws.{Formed, Grown, ItemsKept, effects-kept, draws-kept}
@@ -22,7 +22,7 @@ use Rattle.graph_edits.proofs.PlaceLaws.{place-bound, place-above, plac
 use Rattle.graph_edits.proofs.LimitLaws.{sides, ordered}
 use Rattle.graph_edits.proofs.GrownFormed.{Around, around-grown, around-formed}
 
-module _ (t : List ℕ) (a clock : ℕ) (formed : Formed t) (known : a < actionCount t) (plain : actionKind t a ≡ 0) (room : resetCount t a < 16) (timed : clock < clockCount t) where
+module _ (t : List ℕ) (a clock : ℕ) (words : Words t) (low : a < 32) (room : resetCount t a < 16) where
   abbrev n : ℕ
   n = resetCount t a
 
@@ -58,19 +58,19 @@ module _ (t : List ℕ) (a clock : ℕ) (formed : Formed t) (known : a < actionC
   other : (j : ℕ) → (j ≡ lo → ⊥) → (j ≡ 75 + 51 * a → ⊥) → getD u j 0 ≡ getD gap j 0
   other j x y = getD-set-other (set gap lo clock) (75 + 51 * a) j (n + 1) 0 y ∙ getD-set-other gap lo j clock 0 x
 
-  before : (j : ℕ) → j < lo → (j ≡ 75 + 51 * a → ⊥) → getD u j 0 ≡ getD t j 0
+  pub before : (j : ℕ) → j < lo → (j ≡ 75 + 51 * a → ⊥) → getD u j 0 ≡ getD t j 0
   before j l x = other j (λ e. omega arith) x ∙ gap-before t lo hi 1 some fits j (omega arith)
 
-  after : (j : ℕ) → 93 + 51 * a ≤ j → getD u j 0 ≡ getD t j 0
+  pub after : (j : ℕ) → 93 + 51 * a ≤ j → getD u j 0 ≡ getD t j 0
   after j l = other j (λ e. omega (arith, least)) (λ e. omega arith) ∙ gap-after t lo hi 1 some fits j (omega arith)
 
-  count : resetCount u a ≡ n + 1
+  pub count : resetCount u a ≡ n + 1
   count = getD-set-same (set gap lo clock) (75 + 51 * a) (n + 1) 0 (simp length-set (omega (arith, size)))
 
-  here : resetAt u a p ≡ clock
+  pub here : resetAt u a p ≡ clock
   here = getD-set-other (set gap lo clock) (75 + 51 * a) lo (n + 1) 0 (λ e. omega arith) ∙ getD-set-same gap lo clock 0 (omega (arith, size, least))
 
-  above : (i : ℕ) → p ≤ i → i < n → resetAt u a (i + 1) ≡ resetAt t a i
+  pub above : (i : ℕ) → p ≤ i → i < n → resetAt u a (i + 1) ≡ resetAt t a i
   above i l m =
       let e : 77 + 51 * a + (i + 1) ≡ 77 + 51 * a + i + 1 = omega arith in
       rw e (other (77 + 51 * a + i + 1) (λ f. omega arith) (λ f. omega arith) ∙ gap-moved t lo hi 1 some fits (77 + 51 * a + i) (omega arith) (omega arith))
@@ -92,11 +92,11 @@ module _ (t : List ℕ) (a clock : ℕ) (formed : Formed t) (known : a < actionC
       (λ e. after j (omega arith))
       (λ k. after j (omega arith)))
 
-  around : Around t u a
-  around =
+  pub around : actionCount t ≤ 32 → Around t u a
+  around few =
       let same : actionCount u ≡ actionCount t = first 3 (omega arith) in
       record {
-        words = simp length-set (size ∙ formed .words);
+        words = simp length-set (size ∙ words);
         more = omega arith;
         few = omega arith;
         others = λ b l other. omega arith;
@@ -104,59 +104,64 @@ module _ (t : List ℕ) (a clock : ℕ) (formed : Formed t) (known : a < actionC
         items = λ b e l other j k. after _ (omega arith);
       }
 
-  grown : Grown t u
-  grown = around-grown t u a (omega arith) formed around
+  module _ (formed : Formed t) (known : a < actionCount t) (plain : actionKind t a ≡ 0) (timed : clock < clockCount t) where
+    grown : Grown t u
+    grown = around-grown t u a (omega arith) formed (around (formed .counts .actions))
 
-  was-plain : plainFormed t a ≡ true
-  unfolding actionFormed
-  was-plain = rw plain at (formed .action a known)
+    was-plain : plainFormed t a ≡ true
+    unfolding actionFormed
+    was-plain = rw plain at (formed .action a known)
 
-  were-resets : resetsFormed t a ≡ true
-  unfolding plainFormed
-  were-resets = and-first _ _ was-plain
+    were-resets : resetsFormed t a ≡ true
+    unfolding plainFormed
+    were-resets = and-first _ _ was-plain
 
-  resets : resetsFormed u a ≡ true
-  unfolding resetsFormed resetFormed
-  resets = rw count (and-both (le-leb (n + 1) 16 (omega arith)) (all-from (resetFormed u a) (n + 1) each))
-    where
-      old : (i : ℕ) → i < n → resetFormed t a i ≡ true
-      old i = all-at (resetFormed t a) n i (and-rest _ _ were-resets)
+    resets : resetsFormed u a ≡ true
+    unfolding resetsFormed resetFormed
+    resets = rw count (and-both (le-leb (n + 1) 16 (omega arith)) (all-from (resetFormed u a) (n + 1) each))
+      where
+        old : (i : ℕ) → i < n → resetFormed t a i ≡ true
+        old i = all-at (resetFormed t a) n i (and-rest _ _ were-resets)
 
-      old-order : (i : ℕ) → i + 1 < n → resetAt t a i ≤ resetAt t a (i + 1)
-      old-order i l = rw (add-one i) (leb-true _ _ (and-rest _ _ (old (suc i) (omega arith))))
+        old-order : (i : ℕ) → i + 1 < n → resetAt t a i ≤ resetAt t a (i + 1)
+        old-order i l = rw (add-one i) (leb-true _ _ (and-rest _ _ (old (suc i) (omega arith))))
 
-      in-time : (i : ℕ) → i < n + 1 → resetAt u a i < clockCount t
-      in-time i l =
-          sides i p
-          (λ m. rw (before (77 + 51 * a + i) (omega arith) (λ e. omega arith)) (ltb-true _ _ (and-first _ _ (old i (omega (arith, least))))))
-          (λ e. rw (e, here) timed)
-          (λ m.
-          let e : i ≡ i - 1 + 1 = omega arith in
-          rw (ap (resetAt u a) e ∙ above (i - 1) (omega arith) (omega arith)) (ltb-true _ _ (and-first _ _ (old (i - 1) (omega arith)))))
+        in-time : (i : ℕ) → i < n + 1 → resetAt u a i < clockCount t
+        in-time i l =
+            sides i p
+            (λ m. rw (before (77 + 51 * a + i) (omega arith) (λ e. omega arith)) (ltb-true _ _ (and-first _ _ (old i (omega (arith, least))))))
+            (λ e. rw (e, here) timed)
+            (λ m.
+            let e : i ≡ i - 1 + 1 = omega arith in
+            rw (ap (resetAt u a) e ∙ above (i - 1) (omega arith) (omega arith)) (ltb-true _ _ (and-first _ _ (old (i - 1) (omega arith)))))
 
-      order : (i : ℕ) → i < n + 1 → resetBefore u a i ≤ resetAt u a i
-      order zero l = omega arith
-      order (suc i) l =
-          rw (sym (add-one i))
-          (ordered (resetAt t a) (resetAt u a) n clock p least (place-above (resetAt t a) n clock) (place-below (resetAt t a) n clock) (λ j m. before _ (omega arith) (λ e. omega arith)) here above old-order i (omega arith))
+        order : (i : ℕ) → i < n + 1 → resetBefore u a i ≤ resetAt u a i
+        order zero l = omega arith
+        order (suc i) l =
+            rw (sym (add-one i))
+            (ordered (resetAt t a) (resetAt u a) n clock p least (place-above (resetAt t a) n clock) (place-below (resetAt t a) n clock) (λ j m. before _ (omega arith) (λ e. omega arith)) here above old-order i (omega arith))
 
-      each : (i : ℕ) → i < n + 1 → resetFormed u a i ≡ true
-      each i l = rw (first 1 (omega arith)) (and-both (lt-ltb _ _ (in-time i l)) (le-leb _ _ (order i l)))
+        each : (i : ℕ) → i < n + 1 → resetFormed u a i ≡ true
+        each i l = rw (first 1 (omega arith)) (and-both (lt-ltb _ _ (in-time i l)) (le-leb _ _ (order i l)))
 
-  still-plain : plainFormed u a ≡ true
-  unfolding plainFormed
-  still-plain =
-      let m = effectCount t a in
-      let few : m ≤ 16 = leb-true _ _ (and-first _ _ (and-rest _ _ was-plain)) in
-      let all : allBelow m (effectFormed t a) ≡ true = and-first _ _ (and-rest _ _ (and-rest _ _ was-plain)) in
-      let same : (e : ℕ) → e < m → effectLength u a e ≡ effectLength t a e = λ e l. after _ (omega arith) in
-      let items : (e : ℕ) → e < m → ItemsKept t u a e = λ e l j k. after _ (omega arith) in
-      rw (before (76 + 51 * a) (omega arith) (λ e. omega arith), draws-kept grown a (omega arith) m few same items (short-effects t a m all))
-      (and-kept (λ r. resets) (and-kept (λ r. r) (and-kept (effects-kept grown a (omega arith) m few same items (λ e l. after _ (omega arith))) (λ r. r))) was-plain)
+    still-plain : plainFormed u a ≡ true
+    unfolding plainFormed
+    still-plain =
+        let m = effectCount t a in
+        let few : m ≤ 16 = leb-true _ _ (and-first _ _ (and-rest _ _ was-plain)) in
+        let all : allBelow m (effectFormed t a) ≡ true = and-first _ _ (and-rest _ _ (and-rest _ _ was-plain)) in
+        let same : (e : ℕ) → e < m → effectLength u a e ≡ effectLength t a e = λ e l. after _ (omega arith) in
+        let items : (e : ℕ) → e < m → ItemsKept t u a e = λ e l j k. after _ (omega arith) in
+        rw (before (76 + 51 * a) (omega arith) (λ e. omega arith), draws-kept grown a (omega arith) m few same items (short-effects t a m all))
+        (and-kept (λ r. resets) (and-kept (λ r. r) (and-kept (effects-kept grown a (omega arith) m few same items (λ e l. after _ (omega arith))) (λ r. r))) was-plain)
 
-  still-formed : actionFormed u a ≡ true
-  unfolding actionFormed
-  still-formed = rw (first (74 + 51 * a) (omega arith), plain) still-plain
+    still-formed : actionFormed u a ≡ true
+    unfolding actionFormed
+    still-formed = rw (first (74 + 51 * a) (omega arith), plain) still-plain
 
-  pub reset-formed : Formed (withReset t a clock)
-  reset-formed = around-formed t u a (omega arith) formed around still-formed
+    whole : Formed u
+    whole = around-formed t u a low formed (around (formed .counts .actions)) still-formed
+
+pub reset-formed : (t : List ℕ) (a clock : ℕ) → Formed t → a < actionCount t → actionKind t a ≡ 0 → resetCount t a < 16 → clock < clockCount t
+    → Formed (withReset t a clock)
+reset-formed t a clock formed known plain room timed = whole t a clock (formed .words) (omega arith) room formed known plain timed

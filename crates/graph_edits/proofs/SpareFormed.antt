@@ -42,6 +42,15 @@ module _ (t : List ℕ) (counts : Counted t) where
   pub spare-action : actionCount t < 32 → (i : ℕ) → i < 51 → Spare t (74 + 51 * actionCount t + i)
   spare-action room i l = omega arith
 
+  pub spare-item : actionCount t < 32 → (e j : ℕ) → e < 16 → j < 64 → Spare t (14122 + 64 * (32 * e + actionCount t) + j)
+  spare-item room e j l m = omega arith
+
+  pub spare-invariants : locationCount t < 32 → Spare t (42 + locationCount t)
+  spare-invariants room = omega arith
+
+  pub spare-group : locationCount t < 32 → (j : ℕ) → j < 24 → Spare t (2090 + 24 * (128 + locationCount t) + j)
+  spare-group room j l = omega arith
+
 -- ---- u has the words of t that are not spare
 abbrev pub Agrees : List ℕ → List ℕ → Type 0
 Agrees t u = (j : ℕ) → (Spare t j → ⊥) → getD u j 0 ≡ getD t j 0

@@ -45,7 +45,7 @@ module _ (t : List ℕ) (p n : ℕ) (l : Limits) (words : Words t) (least : p �
   high : 2090 + 24 * n + 24 ≤ length t
   high = omega arith
 
-  opened-words : Words opened
+  pub opened-words : Words opened
   opened-words = gap-length t _ _ 24 low high ∙ words
 
   group-words : Words (withGroup t p n l)
@@ -137,20 +137,20 @@ module _ (t : List ℕ) (p n key : ℕ) (ws : List ℕ) (l : Limits) (f : Formed
   row : Put t rowed (1706 + 3 * p) (1706 + 3 * n) key (length ws) (l .count)
   row = row-put t p n key (length ws) (l .count) (f .words) least room
 
-  rowed-words : Words rowed
+  pub rowed-words : Words rowed
   rowed-words = row .size ∙ f .words
 
-  limited-words : Words limited
+  pub limited-words : Words limited
   limited-words = group-words rowed p n l rowed-words least room few
 
   guarded-words : Words guarded
   guarded-words = guard-words limited p n ws limited-words least room short
 
-  put-words : Words after
+  pub put-words : Words after
   unfolding transitionAt
   put-words = simp length-set guarded-words
 
-  put-count : transitionCount after ≡ n + 1
+  pub put-count : transitionCount after ≡ n + 1
   unfolding transitionAt
   put-count = getD-set-same guarded 5 (n + 1) 0 (omega (arith, guarded-words))
 
@@ -159,24 +159,24 @@ module _ (t : List ℕ) (p n key : ℕ) (ws : List ℕ) (l : Limits) (f : Formed
   unfolding transitionAt
   guards j h = getD-set-other guarded 5 j (n + 1) 0 h
 
-  limits : (j : ℕ) → (j ≡ 5 → ⊥) × (5930 + 64 * p ≤ j → 14122 ≤ j) → getD after j 0 ≡ getD limited j 0
+  pub limits : (j : ℕ) → (j ≡ 5 → ⊥) × (5930 + 64 * p ≤ j → 14122 ≤ j) → getD after j 0 ≡ getD limited j 0
   limits j h = guards j (h .0) ∙ guard-outside limited p n ws limited-words least room short j (λ m. omega (arith, h .1 m))
 
   rows : (j : ℕ) → (j ≡ 5 → ⊥) × (5930 + 64 * p ≤ j → 14122 ≤ j) × (2090 + 24 * p ≤ j → 5162 ≤ j) → getD after j 0 ≡ getD rowed j 0
   rows j h = limits j (h .0, h .1) ∙ group-outside rowed p n l rowed-words least room few j (λ m. omega (arith, h .2 m))
 
-  put-same : (j : ℕ) → (j ≡ 5 → ⊥) × (5930 + 64 * p ≤ j → 14122 ≤ j) × (2090 + 24 * p ≤ j → 5162 ≤ j) × (1706 + 3 * p ≤ j → 2090 ≤ j)
+  pub put-same : (j : ℕ) → (j ≡ 5 → ⊥) × (5930 + 64 * p ≤ j → 14122 ≤ j) × (2090 + 24 * p ≤ j → 5162 ≤ j) × (1706 + 3 * p ≤ j → 2090 ≤ j)
       → getD after j 0 ≡ getD t j 0
   put-same j h = rows j (h .0, h .1, h .2) ∙ outside t rowed (1706 + 3 * p) (1706 + 3 * n + 3) (row .before) (row .after) j (λ m. omega (arith, h .3 m))
 
   -- transition k, from the place on, is transition k + 1
   module _ (k m : ℕ) (e : m ≡ k + 1) (from : p ≤ k) (to : k < n) where
-    row-moved : Moved t after (1706 + 3 * k) (1706 + 3 * m) 3
+    pub row-moved : Moved t after (1706 + 3 * k) (1706 + 3 * m) 3
     row-moved j h =
         let q : 1706 + 3 * m + j ≡ 1706 + 3 * k + j + 3 = omega arith in
         rw q (rows (1706 + 3 * k + j + 3) (omega arith) ∙ row .moved (1706 + 3 * k + j) (omega arith) (omega arith))
 
-    limits-moved : GroupMoved t after k m
+    pub limits-moved : GroupMoved t after k m
     limits-moved j h =
         let q : 2090 + 24 * m + j ≡ 2090 + 24 * k + j + 24 = omega arith in
         rw q
@@ -184,7 +184,7 @@ module _ (t : List ℕ) (p n key : ℕ) (ws : List ℕ) (l : Limits) (f : Formed
         ∙ group-moved rowed p n l rowed-words least room few (2090 + 24 * k + j) (omega arith) (omega arith)
         ∙ row .after (2090 + 24 * k + j) (omega arith))
 
-    items-moved : Moved t after (5930 + 64 * k) (5930 + 64 * m) 64
+    pub items-moved : Moved t after (5930 + 64 * k) (5930 + 64 * m) 64
     items-moved j h =
         let q : 5930 + 64 * m + j ≡ 5930 + 64 * k + j + 64 = omega arith in
         rw q
@@ -194,20 +194,20 @@ module _ (t : List ℕ) (p n key : ℕ) (ws : List ℕ) (l : Limits) (f : Formed
         ∙ row .after (5930 + 64 * k + j) (omega arith))
 
   -- the new transition
-  put-key : keyOf after p ≡ key
+  pub put-key : keyOf after p ≡ key
   put-key = rows (1706 + 3 * p) (omega arith) ∙ row .first
 
-  put-guard : guardLength after p ≡ length ws
+  pub put-guard : guardLength after p ≡ length ws
   put-guard =
       let q : 1707 + 3 * p ≡ 1706 + 3 * p + 1 = omega arith in
       rw q (rows (1706 + 3 * p + 1) (omega arith) ∙ row .second)
 
-  put-limits : limitCount after p ≡ l .count
+  pub put-limits : limitCount after p ≡ l .count
   put-limits =
       let q : 1708 + 3 * p ≡ 1706 + 3 * p + 2 = omega arith in
       rw q (rows (1706 + 3 * p + 2) (omega arith) ∙ row .third)
 
-  put-items : guardItems after p ≡ ws
+  pub put-items : guardItems after p ≡ ws
   put-items =
       rw put-guard
       (moved-items guarded after (5930 + 64 * p) (5930 + 64 * p) 64 (length ws) short (omega (arith, guarded-words)) (omega (arith, put-words))

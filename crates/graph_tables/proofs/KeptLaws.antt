@@ -80,7 +80,7 @@ abbrev pub Moved : List ℕ → List ℕ → ℕ → ℕ → ℕ → Type 0
 Moved t u from to n = (j : ℕ) → j < n → getD u (to + j) 0 ≡ getD t (from + j) 0
 
 -- one of them, wherever it is said to stand
-word-moved : (t u : List ℕ) (from to n j p q : ℕ) → Moved t u from to n → j < n → p ≡ to + j → q ≡ from + j → getD u p 0 ≡ getD t q 0
+pub word-moved : (t u : List ℕ) (from to n j p q : ℕ) → Moved t u from to n → j < n → p ≡ to + j → q ≡ from + j → getD u p 0 ≡ getD t q 0
 word-moved t u from to n j p q moved l e f = rw (e, f) (moved j l)
 
 -- the first m of them
@@ -118,13 +118,13 @@ module _ (t u : List ℕ) (g h : ℕ) (moved : GroupMoved t u g h) where
   limit-word : (j p q : ℕ) → j < 24 → p ≡ 2090 + 24 * h + j → q ≡ 2090 + 24 * g + j → getD u p 0 ≡ getD t q 0
   limit-word j p q = word-moved t u _ _ 24 j p q moved
 
-  clock-moved : (i : ℕ) → i < 8 → clockOf u h i ≡ clockOf t g i
+  pub clock-moved : (i : ℕ) → i < 8 → clockOf u h i ≡ clockOf t g i
   clock-moved i l = moved (3 * i) (omega arith)
 
-  lower-moved : (i : ℕ) → i < 8 → lowerOf u h i ≡ lowerOf t g i
+  pub lower-moved : (i : ℕ) → i < 8 → lowerOf u h i ≡ lowerOf t g i
   lower-moved i l = limit-word (3 * i + 1) _ _ (omega arith) (omega arith) (omega arith)
 
-  upper-moved : (i : ℕ) → i < 8 → upperOf u h i ≡ upperOf t g i
+  pub upper-moved : (i : ℕ) → i < 8 → upperOf u h i ≡ upperOf t g i
   upper-moved i l = limit-word (3 * i + 2) _ _ (omega arith) (omega arith) (omega arith)
 
   before-moved : (i : ℕ) → i < 8 → clockBefore u h i ≡ clockBefore t g i

@@ -170,7 +170,7 @@ key-formed t pre a post f from to by =
     and-both (rw (key-pre pre a post p small r) (lt-ltb _ _ from))
     (and-both (rw (key-post pre a post p small r) (lt-ltb _ _ to)) (rw (key-action pre a post p small r) by))
 
-guard-fits : (t : List ℕ) (guarded : Bool) (ws : List ℕ) → (guarded ≡ true → GuardReady t ws) → (length (guardOf guarded ws) ≤ 64) × GuardFits t (guardOf guarded ws)
+pub guard-fits : (t : List ℕ) (guarded : Bool) (ws : List ℕ) → (guarded ≡ true → GuardReady t ws) → (length (guardOf guarded ws) ≤ 64) × GuardFits t (guardOf guarded ws)
 guard-fits t true ws g = let r = g refl in (r .short, λ some. (r .typed, r .no-draws))
 guard-fits t false ws g = (omega arith, λ some. absurd (omega arith))
 

@@ -4,4 +4,5 @@ pub mod ReadyActions
 pub mod ReadyParts
 pub mod BuildingLaws
 pub mod KeepLaws
+pub mod Stored
 pub mod Theorems

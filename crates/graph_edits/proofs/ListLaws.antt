@@ -1,0 +1,228 @@
+-- The parts of a table as lists after an edit: what is put in stands in its order, and all else is as it was.
+use Prim.Native.Nat.{ℕ, zero, suc, _+_, _*_, _<_, _≤_}
+use mathlib.Core.Path.{_≡_, refl, sym, ap, _∙_}
+use mathlib.Core.Bool.{true}
+use mathlib.Core.List.{List, [], _∷_, _++_}
+use native.Mathlib.Numerals.{add-one}
+use native.Mathlib.Omega.{arith}
+use borrow.Author.Tests.{lt-ltb, le-ltb}
+use lib.ListN.{length, getD}
+use Rattle.graph_tables.specs.declared.handed.Limits.{Limits}
+use Rattle.graph_tables.specs.Handed.{handedClock, handedRange}
+use Rattle.graph_tables.specs.Words.{Words, locationCount, transitionCount, resetCount, effectCount, resetAt, effectLength, keyOf, guardLength, limitCount}
+use Rattle.graph_tables.specs.Sound.{TransitionSound}
+use Rattle.graph_tables.proofs.SoundLaws.{sound}
+use Rattle.graph_tables.proofs.KeptLaws.{Formed, together, Moved, GroupMoved, word-moved, items-moved, clock-moved, lower-moved, upper-moved}
+use Rattle.graph_edits.specs.Rows.{placeOf, gapOf}
+use Rattle.graph_edits.specs.Edits.{boundWord, limitPlace, withLimits, withLocation, withReset, withEffect, withRow, withGroup, transitionPlace, withTransition}
+use Rattle.graph_edits.specs.Lists.{listOf, insertSorted, StoredLimit, limitAt, limitsOf, handedLimit, sortedLimits, resetsOf, effectAt, effectsOf, StoredTransition, transitionOf, transitionsOf}
+use Rattle.graph_edits.proofs.PlaceLaws.{place-bound, place-above, place-below}
+use Rattle.graph_edits.proofs.LimitLaws.{Put, bound-back, next}
+use Rattle.graph_edits.proofs.ResetFormed.{before as reset-before, count as reset-count, here as reset-here, above as reset-above}
+use Rattle.graph_edits.proofs.EffectFormed.{row as effect-row, items as effect-other, all-words as effect-words, count as effect-count, variable as effect-var, same-items as effect-items}
+use Rattle.graph_edits.proofs.TransitionFormed.{opened-words, rowed-words, put-words, put-count, limits as put-others, put-same, put-key, put-limits, put-items, row-moved, limits-moved, items-moved as guards-moved}
+use Rattle.graph_edits.proofs.LocationFormed.{put-group as location-group}
+
+-- ---- lists of rows
+module _ {A : Type 0} where
+  -- rows that agree are one list
+  pub list-same : (f h : ℕ → A) (n : ℕ) → ((i : ℕ) → i < n → h i ≡ f i) → listOf h n ≡ listOf f n
+  unfolding listOf
+  list-same f h zero e = refl
+  list-same f h (suc n) e = rw (e zero (omega arith), list-same (λ (i : ℕ). f (suc i)) (λ (i : ℕ). h (suc i)) n (λ i l. e (suc i) (omega arith)))
+
+  -- a row more at the end
+  pub list-more : (f h : ℕ → A) (n : ℕ) (x : A) → ((i : ℕ) → i < n → h i ≡ f i) → h n ≡ x → listOf h (n + 1) ≡ listOf f n ++ (x ∷ [])
+  unfolding listOf
+  list-more f h n x e here = rw (add-one n) (by f h n e here)
+    where
+      by : (f h : ℕ → A) (n : ℕ) → ((i : ℕ) → i < n → h i ≡ f i) → h n ≡ x → listOf h (suc n) ≡ listOf f n ++ (x ∷ [])
+      by f h zero e here = rw here
+      by f h (suc n) e here = rw (e zero (omega arith), by (λ (i : ℕ). f (suc i)) (λ (i : ℕ). h (suc i)) n (λ i l. e (suc i) (omega arith)) here)
+
+  -- a row more before place p, where the numbers before p are at most its own and the one at p is greater
+  put-list : (number : A → ℕ) (f h : ℕ → A) (n p : ℕ) (x : A) → p ≤ n → (p < n → number x < number (f p)) → ((i : ℕ) → i < p → number (f i) ≤ number x)
+      → ((i : ℕ) → i < p → h i ≡ f i) → h p ≡ x → ((i : ℕ) → p ≤ i → i < n → h (suc i) ≡ f i) → listOf h (suc n) ≡ insertSorted number x (listOf f n)
+  unfolding listOf insertSorted
+  put-list number f h zero zero x bound above below before here behind = rw here
+  put-list number f h zero (suc p) x bound above below before here behind = absurd (omega arith)
+  put-list number f h (suc n) zero x bound above below before here behind =
+      rw (
+        lt-ltb (number x) (number (f zero)) (above (omega arith)),
+        here,
+        behind zero (omega arith) (omega arith),
+        list-same (λ (i : ℕ). f (suc i)) (λ (i : ℕ). h (suc (suc i))) n (λ i l. behind (suc i) (omega arith) (omega arith)),
+      )
+  put-list number f h (suc n) (suc p) x bound above below before here behind =
+      rw (
+        le-ltb (number x) (number (f zero)) (below zero (omega arith)),
+        before zero (omega arith),
+        put-list number (λ (i : ℕ). f (suc i)) (λ (i : ℕ). h (suc i)) n p x (omega arith) (λ l. above (omega arith)) (λ i l. below (suc i) (omega arith))
+            (λ i l. before (suc i) (omega arith)) here (λ i l m. behind (suc i) (omega arith) (omega arith)),
+      )
+
+  -- a row more at its place
+  pub inserted-list : (number : A → ℕ) (f h : ℕ → A) (n : ℕ) (x : A)
+      → ((i : ℕ) → i < placeOf (λ (j : ℕ). number (f j)) n (number x) → h i ≡ f i)
+      → h (placeOf (λ (j : ℕ). number (f j)) n (number x)) ≡ x
+      → ((i : ℕ) → placeOf (λ (j : ℕ). number (f j)) n (number x) ≤ i → i < n → h (i + 1) ≡ f i)
+      → listOf h (n + 1) ≡ insertSorted number x (listOf f n)
+  inserted-list number f h n x before here behind =
+      rw (add-one n)
+      (put-list number f h n (placeOf (λ (j : ℕ). number (f j)) n (number x)) x (place-bound _ n _) (place-above _ n _) (place-below _ n _)
+      before here (λ i l m. ap h (sym (add-one i)) ∙ behind i l m))
+
+-- ---- limits
+-- group g of t is group h of u
+pub group-list : (t u : List ℕ) (g h n : ℕ) → GroupMoved t u g h → n ≤ 8 → limitsOf u h n ≡ limitsOf t g n
+group-list t u g h n moved few =
+    list-same (limitAt t g) (limitAt u h) n
+    (λ i l.
+    let room : i < 8 = omega arith in
+    rw (clock-moved t u g h moved i room, lower-moved t u g h moved i room, upper-moved t u g h moved i room))
+
+module _ (t : List ℕ) (g : ℕ) (l : Limits) (words : Words t) (known : g < 160) where
+  pub limits-list : (n : ℕ) → n ≤ 8 → limitsOf (withLimits t g l n) g n ≡ sortedLimits l n
+  unfolding listOf sortedLimits
+  limits-list zero few = refl
+  limits-list (suc n) few =
+      ap (limitsOf u g) (sym (add-one n))
+      ∙ inserted-list (λ (x : StoredLimit). x .clock) (limitAt v g) (limitAt u g) n (handedLimit l n) before here behind
+      ∙ ap (insertSorted (λ (x : StoredLimit). x .clock) (handedLimit l n)) (limits-list n (omega arith))
+    where
+      v : List ℕ
+      v = withLimits t g l n
+
+      u : List ℕ
+      u = withLimits t g l (suc n)
+
+      p : ℕ
+      p = limitPlace v g n (handedClock l n)
+
+      new : Put v u (2090 + 24 * g + 3 * p) (2090 + 24 * g + 3 * n) (handedClock l n) (boundWord (handedRange l n .lower)) (boundWord (handedRange l n .upper))
+      new = next t g l words known n few
+
+      before : (i : ℕ) → i < p → limitAt u g i ≡ limitAt v g i
+      before i m = rw (new .before (2090 + 24 * g + 3 * i) (omega arith), new .before (2091 + 24 * g + 3 * i) (omega arith), new .before (2092 + 24 * g + 3 * i) (omega arith))
+
+      here : limitAt u g p ≡ handedLimit l n
+      here =
+          let one : 2091 + 24 * g + 3 * p ≡ 2090 + 24 * g + 3 * p + 1 = omega arith in
+          let two : 2092 + 24 * g + 3 * p ≡ 2090 + 24 * g + 3 * p + 2 = omega arith in
+          rw (one, two, new .first, new .second, new .third, bound-back (handedRange l n .lower), bound-back (handedRange l n .upper))
+
+      behind : (i : ℕ) → p ≤ i → i < n → limitAt u g (i + 1) ≡ limitAt v g i
+      behind i m k =
+          let none : 2090 + 24 * g + 3 * (i + 1) ≡ 2090 + 24 * g + 3 * i + 3 = omega arith in
+          let one : 2091 + 24 * g + 3 * (i + 1) ≡ 2091 + 24 * g + 3 * i + 3 = omega arith in
+          let two : 2092 + 24 * g + 3 * (i + 1) ≡ 2092 + 24 * g + 3 * i + 3 = omega arith in
+          rw (none, one, two, new .moved (2090 + 24 * g + 3 * i) (omega arith) (omega arith), new .moved (2091 + 24 * g + 3 * i) (omega arith) (omega arith), new .moved (2092 + 24 * g + 3 * i) (omega arith) (omega arith))
+
+-- ---- actions
+module _ (t : List ℕ) (a clock : ℕ) (words : Words t) (low : a < 32) (room : resetCount t a < 16) where
+  pub resets-list : resetsOf (withReset t a clock) a ≡ insertSorted (λ (c : ℕ). c) clock (resetsOf t a)
+  resets-list =
+      let u = withReset t a clock in
+      ap (listOf (resetAt u a)) (reset-count t a clock words low room)
+      ∙ inserted-list (λ (c : ℕ). c) (resetAt t a) (resetAt u a) (resetCount t a) clock
+      (λ i l. reset-before t a clock words low room _ (omega arith) (λ e. omega arith))
+      (reset-here t a clock words low room)
+      (reset-above t a clock words low room)
+
+module _ (t : List ℕ) (a v : ℕ) (ws : List ℕ) (words : Words t) (low : a < 32) (room : effectCount t a < 16) (short : length ws ≤ 64) where
+  pub effects-list : ((e : ℕ) → e < effectCount t a → effectLength t a e ≤ 64)
+      → effectsOf (withEffect t a v ws) a ≡ effectsOf t a ++ (record { var = v; items = ws } ∷ [])
+  effects-list few =
+      let u = withEffect t a v ws in
+      ap (listOf (effectAt u a)) (effect-count t a v ws words low room short)
+      ∙ list-more (effectAt t a) (effectAt u a) (effectCount t a) (record { var = v; items = ws }) old
+      (rw (effect-var t a v ws words low room short, effect-items t a v ws words low room short))
+    where
+      old : (e : ℕ) → e < effectCount t a → effectAt (withEffect t a v ws) a e ≡ effectAt t a e
+      old e l =
+          let at = 14122 + 64 * (32 * e + a) in
+          rw (
+            effect-row t a v ws words low room short (93 + 51 * a + e) (omega arith),
+            effect-row t a v ws words low room short (109 + 51 * a + e) (omega arith),
+            items-moved t (withEffect t a v ws) at at 64 (effectLength t a e) (few e l) (omega arith) (omega (arith, effect-words t a v ws words low room short))
+                (effect-other t a v ws words low room short a e (omega arith)),
+          )
+
+-- ---- transitions
+-- transition k of t is transition m of u
+pub transition-same : (t u : List ℕ) (k m : ℕ) → Formed t → Words u → k < transitionCount t → m < 128
+    → Moved t u (1706 + 3 * k) (1706 + 3 * m) 3 → GroupMoved t u k m → Moved t u (5930 + 64 * k) (5930 + 64 * m) 64 → transitionOf u m ≡ transitionOf t k
+transition-same t u k m f words known room row group items =
+    let old : TransitionSound t k = sound t true (together t f) .transition k known in
+    let key : keyOf u m ≡ keyOf t k = word-moved t u _ _ 3 0 _ _ row (omega arith) (omega arith) (omega arith) in
+    let long : guardLength u m ≡ guardLength t k = word-moved t u _ _ 3 1 _ _ row (omega arith) (omega arith) (omega arith) in
+    let count : limitCount u m ≡ limitCount t k = word-moved t u _ _ 3 2 _ _ row (omega arith) (omega arith) (omega arith) in
+    rw (
+      key,
+      long,
+      count,
+      items-moved t u (5930 + 64 * k) (5930 + 64 * m) 64 (guardLength t k) (old .guard .short) (omega arith) (omega arith) items,
+      group-list t u k m (limitCount t k) group (old .limits .few),
+    )
+
+module _ (t : List ℕ) (key : ℕ) (ws : List ℕ) (l : Limits) (f : Formed t) (room : transitionCount t < 128) (short : length ws ≤ 64) (few : l .count ≤ 8) where
+  abbrev newTransition : StoredTransition
+  newTransition = record { key = key; guard = ws; limits = sortedLimits l (l .count) }
+
+  pub transitions-list : transitionsOf (withTransition t key ws l) ≡ insertSorted (λ (x : StoredTransition). x .key) newTransition (transitionsOf t)
+  unfolding withGroup
+  transitions-list =
+      ap (listOf (transitionOf u)) (put-count t p n key ws l f refl least room few short)
+      ∙ inserted-list (λ (x : StoredTransition). x .key) (transitionOf t) (transitionOf u) n newTransition before here behind
+    where
+      n : ℕ
+      n = transitionCount t
+
+      p : ℕ
+      p = transitionPlace t key
+
+      u : List ℕ
+      u = withTransition t key ws l
+
+      least : p ≤ n
+      least = place-bound (keyOf t) n key
+
+      words : Words u
+      words = put-words t p n key ws l f refl least room few short
+
+      same : (j : ℕ) → (j ≡ 5 → ⊥) × (5930 + 64 * p ≤ j → 14122 ≤ j) × (2090 + 24 * p ≤ j → 5162 ≤ j) × (1706 + 3 * p ≤ j → 2090 ≤ j) → getD u j 0 ≡ getD t j 0
+      same = put-same t p n key ws l f refl least room few short
+
+      before : (k : ℕ) → k < p → transitionOf u k ≡ transitionOf t k
+      before k h = transition-same t u k k f words (omega (arith, least)) (omega (arith, least)) (λ j m. same _ (omega (arith, least))) (λ j m. same _ (omega (arith, least))) (λ j m. same _ (omega (arith, least)))
+
+      rowed : List ℕ
+      rowed = withRow t p n key (length ws) (l .count)
+
+      limits : limitsOf u p (l .count) ≡ sortedLimits l (l .count)
+      limits =
+          group-list (withGroup rowed p n l) u p p (l .count) (λ j h. put-others t p n key ws l f refl least room few short _ (omega (arith, least))) few
+          ∙ limits-list (gapOf rowed (2090 + 24 * p) (2090 + 24 * n) 24) p l (opened-words rowed p n l (rowed-words t p n key ws l f refl least room few short) least room few) (omega (arith, least)) (l .count) few
+
+      here : transitionOf u p ≡ newTransition
+      here =
+          rw (
+            put-key t p n key ws l f refl least room few short,
+            put-items t p n key ws l f refl least room few short,
+            put-limits t p n key ws l f refl least room few short,
+            limits,
+          )
+
+      behind : (k : ℕ) → p ≤ k → k < n → transitionOf u (k + 1) ≡ transitionOf t k
+      behind k h m =
+          transition-same t u k (k + 1) f words m (omega arith)
+          (row-moved t p n key ws l f refl least room few short k (k + 1) refl h m)
+          (limits-moved t p n key ws l f refl least room few short k (k + 1) refl h m)
+          (guards-moved t p n key ws l f refl least room few short k (k + 1) refl h m)
+
+-- ---- locations
+pub location-list : (t : List ℕ) (l : Limits) → Words t → locationCount t < 32 → l .count ≤ 8
+    → limitsOf (withLocation t l) (128 + locationCount t) (l .count) ≡ sortedLimits l (l .count)
+location-list t l words room few =
+    group-list (withLimits t (128 + locationCount t) l (l .count)) (withLocation t l) (128 + locationCount t) (128 + locationCount t) (l .count) (location-group t l words room few) few
+    ∙ limits-list t (128 + locationCount t) l words (omega arith) (l .count) few
