@@ -1,27 +1,30 @@
 -- The parts of a table as lists after an edit: what is put in stands in its order, and all else is as it was.
 use Prim.Native.Nat.{ℕ, zero, suc, _+_, _*_, _<_, _≤_}
-use mathlib.Core.Path.{_≡_, refl, sym, ap, _∙_}
+use mathlib.Core.Path.{_≡_, refl, sym, ap, subst, _∙_}
 use mathlib.Core.Bool.{true}
 use mathlib.Core.List.{List, [], _∷_, _++_}
 use native.Mathlib.Numerals.{add-one}
 use native.Mathlib.Omega.{arith}
 use borrow.Author.Tests.{lt-ltb, le-ltb}
-use lib.ListN.{length, getD}
+use lib.ListN.{length, getD, set}
 use Rattle.graph_tables.specs.declared.handed.Limits.{Limits}
-use Rattle.graph_tables.specs.Handed.{handedClock, handedRange}
-use Rattle.graph_tables.specs.Words.{Words, locationCount, transitionCount, resetCount, effectCount, resetAt, effectLength, keyOf, guardLength, limitCount}
+use Rattle.graph_tables.specs.declared.handed.Vars.{Vars}
+use Rattle.graph_tables.specs.Handed.{handedClock, handedRange, handedVar}
+use Rattle.graph_tables.specs.Words.{Words, locationCount, actionCount, transitionCount, resetCount, effectCount, resetAt, effectVar, effectLength, effectItems, keyOf, guardLength, limitCount}
 use Rattle.graph_tables.specs.Sound.{TransitionSound}
 use Rattle.graph_tables.proofs.SoundLaws.{sound}
 use Rattle.graph_tables.proofs.KeptLaws.{Formed, together, Moved, GroupMoved, word-moved, items-moved, clock-moved, lower-moved, upper-moved}
 use Rattle.graph_edits.specs.Rows.{placeOf, gapOf}
-use Rattle.graph_edits.specs.Edits.{boundWord, limitPlace, withLimits, withLocation, withReset, withEffect, withRow, withGroup, transitionPlace, withTransition}
-use Rattle.graph_edits.specs.Lists.{listOf, insertSorted, StoredLimit, limitAt, limitsOf, handedLimit, sortedLimits, resetsOf, effectAt, effectsOf, StoredTransition, transitionOf, transitionsOf}
+use Rattle.graph_edits.specs.Edits.{boundWord, limitPlace, withLimits, withLocation, withReset, withEffect, withExpressions, withSend, withTargets, withReceive, withRow, withGroup, transitionPlace, withTransition}
+use Rattle.graph_edits.specs.Lists.{listOf, insertSorted, StoredLimit, limitAt, limitsOf, invariantsOf, handedLimit, sortedLimits, resetsOf, effectAt, effectsOf, expressionsOf, targetsOf, StoredTransition, transitionOf, transitionsOf}
 use Rattle.graph_edits.proofs.PlaceLaws.{place-bound, place-above, place-below}
 use Rattle.graph_edits.proofs.LimitLaws.{Put, bound-back, next}
 use Rattle.graph_edits.proofs.ResetFormed.{before as reset-before, count as reset-count, here as reset-here, above as reset-above}
 use Rattle.graph_edits.proofs.EffectFormed.{row as effect-row, items as effect-other, all-words as effect-words, count as effect-count, variable as effect-var, same-items as effect-items}
+use Rattle.graph_edits.proofs.ExpressionLaws.{apart-row, Message, Short, message, targets-words, targets-other, targets-var}
+use Rattle.graph_edits.proofs.MessageFormed.{put-other as action-other, put-words as action-words, put-row as action-row}
 use Rattle.graph_edits.proofs.TransitionFormed.{opened-words, rowed-words, put-words, put-count, limits as put-others, put-same, put-key, put-limits, put-items, row-moved, limits-moved, items-moved as guards-moved}
-use Rattle.graph_edits.proofs.LocationFormed.{put-group as location-group}
+use Rattle.graph_edits.proofs.LocationFormed.{put-group as location-group, put-number as location-number}
 
 -- ---- lists of rows
 module _ {A : Type 0} where
@@ -148,6 +151,52 @@ module _ (t : List ℕ) (a v : ℕ) (ws : List ℕ) (words : Words t) (low : a <
                 (effect-other t a v ws words low room short a e (omega arith)),
           )
 
+-- the expressions of a send, and the variables of a receive, as they are handed
+pub send-list : (t : List ℕ) (m : ℕ → List ℕ) (count : ℕ) → Words t → actionCount t < 32 → count ≤ 4 → Short m count
+    → expressionsOf (withSend t m count) (actionCount t) ≡ listOf m count
+send-list t m count words low few short =
+    let at : actionCount w ≡ a = so .other 3 (λ i l. apart-row a i 3 (omega arith) (omega arith)) in
+    subst (λ (n : ℕ). expressionsOf (set (set (set (set w (74 + 51 * n) 1) (75 + 51 * n) 0) (76 + 51 * n) count) 3 (n + 1)) a ≡ listOf m count) (sym at)
+    (ap (listOf (effectItems u a)) (action-row w a 1 count (so .words) low .2) ∙ list-same m (effectItems u a) count each)
+  where
+    a : ℕ
+    a = actionCount t
+
+    w : List ℕ
+    w = withExpressions t a m count
+
+    u : List ℕ
+    u = set (set (set (set w (74 + 51 * a) 1) (75 + 51 * a) 0) (76 + 51 * a) count) 3 (a + 1)
+
+    so : Message t a m count w
+    so = message t a m count words low few short
+
+    each : (i : ℕ) → i < count → effectItems u a i ≡ m i
+    each i l =
+        let place = 14122 + 64 * (32 * i + a) in
+        rw (action-other w a 1 count (109 + 51 * a + i) (omega arith))
+        (items-moved w u place place 64 (effectLength w a i) (rw (so .long i l) (short i l)) (omega (arith, so .words)) (omega (arith, action-words w a 1 count (so .words) low))
+        (λ j h. action-other w a 1 count (place + j) (omega arith)))
+        ∙ so .items i l
+
+pub receive-list : (t : List ℕ) (v : Vars) → Words t → actionCount t < 32 → v .count ≤ 4
+    → targetsOf (withReceive t v) (actionCount t) ≡ listOf (handedVar v) (v .count)
+receive-list t v words low few =
+    let at : actionCount w ≡ a = targets-other t a v (v .count) 3 (omega arith) in
+    subst (λ (n : ℕ). targetsOf (set (set (set (set w (74 + 51 * n) 2) (75 + 51 * n) 0) (76 + 51 * n) (v .count)) 3 (n + 1)) a ≡ listOf (handedVar v) (v .count)) (sym at)
+    (ap (listOf (effectVar u a)) (action-row w a 2 (v .count) (targets-words t a v (v .count) words) low .2)
+    ∙ list-same (handedVar v) (effectVar u a) (v .count)
+    (λ i l. action-other w a 2 (v .count) (93 + 51 * a + i) (omega arith) ∙ targets-var t a v (v .count) words low few i l))
+  where
+    a : ℕ
+    a = actionCount t
+
+    w : List ℕ
+    w = withTargets t a v (v .count)
+
+    u : List ℕ
+    u = set (set (set (set w (74 + 51 * a) 2) (75 + 51 * a) 0) (76 + 51 * a) (v .count)) 3 (a + 1)
+
 -- ---- transitions
 -- transition k of t is transition m of u
 pub transition-same : (t u : List ℕ) (k m : ℕ) → Formed t → Words u → k < transitionCount t → m < 128
@@ -226,3 +275,8 @@ pub location-list : (t : List ℕ) (l : Limits) → Words t → locationCount t 
 location-list t l words room few =
     group-list (withLimits t (128 + locationCount t) l (l .count)) (withLocation t l) (128 + locationCount t) (128 + locationCount t) (l .count) (location-group t l words room few) few
     ∙ limits-list t (128 + locationCount t) l words (omega arith) (l .count) few
+
+-- they are all its invariants
+pub invariants-list : (t : List ℕ) (l : Limits) → Words t → locationCount t < 32 → l .count ≤ 8 → invariantsOf (withLocation t l) (locationCount t) ≡ sortedLimits l (l .count)
+invariants-list t l words room few =
+    ap (limitsOf (withLocation t l) (128 + locationCount t)) (location-number t l words room few) ∙ location-list t l words room few

@@ -38,7 +38,7 @@ module _ (x : List ℕ) (n kind count : ℕ) where
   abbrev u : List ℕ
   u = put x n kind count
 
-  put-other : (j : ℕ) → (j ≢ 3) × (j ≢ 76 + 51 * n) × (j ≢ 75 + 51 * n) × (j ≢ 74 + 51 * n) → getD u j 0 ≡ getD x j 0
+  pub put-other : (j : ℕ) → (j ≢ 3) × (j ≢ 76 + 51 * n) × (j ≢ 75 + 51 * n) × (j ≢ 74 + 51 * n) → getD u j 0 ≡ getD x j 0
   put-other j r =
       getD-set-other x₃ 3 j (n + 1) 0 (r .0)
       ∙ getD-set-other x₂ (76 + 51 * n) j count 0 (r .1)
@@ -46,13 +46,13 @@ module _ (x : List ℕ) (n kind count : ℕ) where
       ∙ getD-set-other x (74 + 51 * n) j kind 0 (r .3)
 
   module _ (words : Words x) (low : n < 32) where
-    put-words : Words u
+    pub put-words : Words u
     put-words = simp length-set words
 
     put-actions : actionCount u ≡ n + 1
     put-actions = getD-set-same x₃ 3 (n + 1) 0 (simp length-set (omega arith))
 
-    put-row : (actionKind u n ≡ kind) × (resetCount u n ≡ 0) × (effectCount u n ≡ count)
+    pub put-row : (actionKind u n ≡ kind) × (resetCount u n ≡ 0) × (effectCount u n ≡ count)
     put-row = (
       getD-set-other x₃ 3 (74 + 51 * n) (n + 1) 0 (omega arith)
           ∙ getD-set-other x₂ (76 + 51 * n) (74 + 51 * n) count 0 (omega arith)

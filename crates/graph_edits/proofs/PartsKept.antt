@@ -1,6 +1,6 @@
 -- What was in a table is in it after an edit, as lists.
 use Prim.Native.Nat.{ℕ, _+_, _*_, _-_, _<_, _≤_}
-use mathlib.Core.Path.{_≡_, refl, sym, subst, _∙_}
+use mathlib.Core.Path.{_≡_, refl, sym, ap, subst, _∙_}
 use mathlib.Core.Logic.{_≢_}
 use mathlib.Core.Bool.{true}
 use mathlib.Core.List.{List}
@@ -10,7 +10,7 @@ use lib.ListN.{length, getD, set, length-set}
 use lib.Seq.{getD-set-same, getD-set-other}
 use Rattle.graph_tables.specs.declared.handed.Limits.{Limits}
 use Rattle.graph_tables.specs.declared.handed.Vars.{Vars}
-use Rattle.graph_tables.specs.Words.{Words, variableCount, locationCount, actionCount, processCount, transitionCount, invariantCount, actionKind, resetCount, effectCount, resetAt, effectVar, effectLength, effectItems, keyOf}
+use Rattle.graph_tables.specs.Words.{Words, variableCount, clockCount, locationCount, actionCount, processCount, transitionCount, invariantCount, actionKind, resetCount, effectCount, resetAt, effectVar, effectLength, effectItems, keyOf}
 use Rattle.graph_tables.specs.Sound.{Sound}
 use Rattle.graph_tables.proofs.SoundLaws.{sound}
 use Rattle.graph_tables.proofs.KeptLaws.{Formed, together, ItemsKept, word-moved, items-moved}
@@ -20,12 +20,31 @@ use Rattle.graph_edits.proofs.LimitLaws.{sides}
 use Rattle.graph_edits.proofs.GrownFormed.{LocationStands, ActionStands, TransitionStands, Around, front, stands, transition-stands}
 use Rattle.graph_edits.proofs.SpareFormed.{Spare, Agrees, spare-kind, spare-value, spare-place, spare-action, spare-item, spare-invariants, spare-group, set-agrees}
 use Rattle.graph_edits.proofs.ExpressionLaws.{Message, Short, message, targets-words, targets-other}
-use Rattle.graph_edits.proofs.LocationFormed.{limited-words, limited-same}
+use Rattle.graph_edits.proofs.LocationFormed.{limited-words, limited-same, put-words as location-words, put-count as location-count, put-same as location-same}
 use Rattle.graph_edits.proofs.ResetFormed.{before as reset-before, after as reset-after, around as reset-around}
 use Rattle.graph_edits.proofs.EffectFormed.{row as effect-row, around as effect-around}
 use Rattle.graph_edits.proofs.TransitionFormed.{put-words, put-count, put-same}
 use Rattle.graph_edits.proofs.PlaceLaws.{place-bound}
 use Rattle.graph_edits.proofs.ListLaws.{list-same, group-list, transition-same}
+
+-- the six counts, one by one
+six : (t u : List ℕ) → ((c : ℕ) → c < 6 → getD t c 0 ≤ getD u c 0)
+    → (variableCount t ≤ variableCount u) × (clockCount t ≤ clockCount u) × (locationCount t ≤ locationCount u) × (actionCount t ≤ actionCount u) × (processCount t ≤ processCount u) × (transitionCount t ≤ transitionCount u)
+six t u h = (h 0 (omega arith), h 1 (omega arith), h 2 (omega arith), h 3 (omega arith), h 4 (omega arith), h 5 (omega arith))
+
+-- a table keeps its own parts
+pub kept-same : (more : Grows) (t : List ℕ) → Kept more t t
+kept-same more t = record {
+  counts = six t t (λ c l. omega arith);
+  kinds = λ v l. refl;
+  values = λ v l. refl;
+  invariants = λ l m. refl;
+  places = λ p l. refl;
+  actions = λ a l. refl;
+  resets = λ a l other. refl;
+  effects = λ a l other. record { plain = λ k. refl; send = λ k. refl; receive = λ k. refl };
+  transitions = λ other. refl;
+}
 
 -- ---- parts of t that stand in u are the same lists there
 module _ (t u : List ℕ) (f : Formed t) (words : Words u) where
@@ -81,16 +100,39 @@ module _ (t u : List ℕ) (f : Formed t) (words : Words u) where
         effects-same a known (action-word 2 _ (omega arith) (omega arith))
         (λ e l. (action-word (19 + e) _ (omega arith) (omega arith), action-word (35 + e) _ (omega arith) (omega arith), s .items e l))
 
+-- ---- u has the words of t that are not spare, and no count of it is less
+module _ (t u : List ℕ) (f : Formed t) (words : Words u) (counts : (c : ℕ) → c < 6 → getD t c 0 ≤ getD u c 0)
+    (same : (j : ℕ) → 5 ≤ j → (Spare t j → ⊥) → getD u j 0 ≡ getD t j 0) where
+  action-stays : (a : ℕ) → a < actionCount t → ActionStands t u a
+  action-stays a l = record {
+    row = λ j m. same _ (omega arith) (λ s. s .actions a j l m refl);
+    items = λ e n j m. same _ (omega arith) (λ s. s .items a e j l n m refl);
+  }
+
+  same-kept : Kept nothing t u
+  same-kept = record {
+    counts = six t u counts;
+    kinds = λ v l. same _ (omega arith) (λ s. s .kinds v l refl);
+    values = λ v l. same _ (omega arith) (λ s. s .values v l refl);
+    invariants = λ l m. invariants-same t u f words l m (record {
+      count = same _ (omega arith) (λ s. s .invariants l m refl);
+      group = λ j n. same _ (omega arith) (λ s. s .groups l j m n refl);
+    });
+    places = λ p l. same _ (omega arith) (λ s. s .places p l refl);
+    actions = λ a l. kind-stands t u f words a l (action-stays a l);
+    resets = λ a l other. resets-stand t u f words a l (action-stays a l);
+    effects = λ a l other. effects-stand t u f words a l (action-stays a l);
+    transitions = λ other. transitions-same t u f words (same 5 (omega arith) (λ s. omega arith)) (λ k l. record {
+      row = λ j m. same _ (omega arith) (λ s. s .transitions k j l m refl);
+      group = λ j m. same _ (omega arith) (λ s. s .limits k j l m refl);
+      guard = λ j m. same _ (omega arith) (λ s. s .guards k j l m refl);
+    });
+  }
+
 -- ---- w has the words of t that are not spare, and u is w with one of its counts raised
 module _ (t w : List ℕ) (c : ℕ) (f : Formed t) (known : c < 5) (whole : Words w) (agrees : Agrees t w) where
   abbrev raised : List ℕ
   raised = set w c (getD t c 0 + 1)
-
-  raised-words : Words raised
-  raised-words = length-set w c (getD t c 0 + 1) ∙ whole
-
-  raised-same : (j : ℕ) → 5 ≤ j → (Spare t j → ⊥) → getD raised j 0 ≡ getD t j 0
-  raised-same j l used = getD-set-other w c j (getD t c 0 + 1) 0 (omega arith) ∙ agrees j used
 
   raised-counts : (i : ℕ) → i < 6 → getD t i 0 ≤ getD raised i 0
   raised-counts i l =
@@ -99,31 +141,10 @@ module _ (t w : List ℕ) (c : ℕ) (f : Formed t) (known : c < 5) (whole : Word
       (λ e. rw (e, getD-set-same w c (getD t c 0 + 1) 0 (omega arith)) (omega arith))
       (λ m. omega (arith, getD-set-other w c i (getD t c 0 + 1) 0 (omega arith), agrees i (λ s. omega arith)))
 
-  action-stays : (a : ℕ) → a < actionCount t → ActionStands t raised a
-  action-stays a l = record {
-    row = λ j m. raised-same _ (omega arith) (λ s. s .actions a j l m refl);
-    items = λ e n j m. raised-same _ (omega arith) (λ s. s .items a e j l n m refl);
-  }
-
   raised-kept : Kept nothing t raised
-  raised-kept = record {
-    counts = raised-counts;
-    kinds = λ v l. raised-same _ (omega arith) (λ s. s .kinds v l refl);
-    values = λ v l. raised-same _ (omega arith) (λ s. s .values v l refl);
-    invariants = λ l m. invariants-same t raised f raised-words l m (record {
-      count = raised-same _ (omega arith) (λ s. s .invariants l m refl);
-      group = λ j n. raised-same _ (omega arith) (λ s. s .groups l j m n refl);
-    });
-    places = λ p l. raised-same _ (omega arith) (λ s. s .places p l refl);
-    actions = λ a l. kind-stands t raised f raised-words a l (action-stays a l);
-    resets = λ a l other. resets-stand t raised f raised-words a l (action-stays a l);
-    effects = λ a l other. effects-stand t raised f raised-words a l (action-stays a l);
-    transitions = λ other. transitions-same t raised f raised-words (raised-same 5 (omega arith) (λ s. omega arith)) (λ k l. record {
-      row = λ j m. raised-same _ (omega arith) (λ s. s .transitions k j l m refl);
-      group = λ j m. raised-same _ (omega arith) (λ s. s .limits k j l m refl);
-      guard = λ j m. raised-same _ (omega arith) (λ s. s .guards k j l m refl);
-    });
-  }
+  raised-kept =
+      same-kept t raised f (length-set w c (getD t c 0 + 1) ∙ whole) raised-counts
+      (λ j l used. getD-set-other w c j (getD t c 0 + 1) 0 (omega arith) ∙ agrees j used)
 
 pub var-keeps : (t : List ℕ) (kind value : ℕ) → Formed t → variableCount t < 16 → Kept nothing t (withVar t kind value)
 var-keeps t kind value f room =
@@ -189,10 +210,23 @@ receive-keeps t v f room few = put-keeps t (withTargets t a v (v .count)) 2 (v .
     agrees : Agrees t (withTargets t a v (v .count))
     agrees j used = targets-other t a v (v .count) j (λ i l e. used (subst (Spare t) (sym e) (row i (omega arith))))
 
+-- a used word is not among the limits of a location more
+beyond : (t : List ℕ) → Formed t → locationCount t < 32 → (j : ℕ) → (Spare t j → ⊥) → 5162 + 24 * locationCount t ≤ j → 5186 + 24 * locationCount t ≤ j
+beyond t f room j used low = by (decLt j (5186 + 24 * n))
+  where
+    n : ℕ
+    n = locationCount t
+
+    by : Dec (j < 5186 + 24 * n) → 5186 + 24 * n ≤ j
+    by (yes h) =
+        let e : j ≡ 2090 + 24 * (128 + n) + (j - (5162 + 24 * n)) = omega arith in
+        absurd (used (subst (Spare t) (sym e) (spare-group t (f .counts) room (j - (5162 + 24 * n)) (omega arith))))
+    by (no h) = omega arith
+
 pub location-keeps : (t : List ℕ) (l : Limits) → Formed t → locationCount t < 32 → l .count ≤ 8 → Kept nothing t (withLocation t l)
 location-keeps t l f room few =
     raised-kept t (set w (42 + n) (l .count)) 2 f (omega arith) (simp length-set (limited-words t l (f .words) room few))
-    (set-agrees t w (42 + n) (l .count) (spare-invariants t (f .counts) room) agrees)
+    (set-agrees t w (42 + n) (l .count) (spare-invariants t (f .counts) room) (λ j used. limited-same t l (f .words) room few j (beyond t f room j used)))
   where
     n : ℕ
     n = locationCount t
@@ -200,14 +234,55 @@ location-keeps t l f room few =
     w : List ℕ
     w = withLimits t (128 + n) l (l .count)
 
-    agrees : Agrees t w
-    agrees j used = limited-same t l (f .words) room few j (λ low. by low (decLt j (5186 + 24 * n)))
-      where
-        by : 5162 + 24 * n ≤ j → Dec (j < 5186 + 24 * n) → 5186 + 24 * n ≤ j
-        by low (yes h) =
-            let e : j ≡ 2090 + 24 * (128 + n) + (j - (5162 + 24 * n)) = omega arith in
-            absurd (used (subst (Spare t) (sym e) (spare-group t (f .counts) room (j - (5162 + 24 * n)) (omega arith))))
-        by low (no h) = omega arith
+-- the place of a process more
+pub initial-keeps : (t : List ℕ) (l : Limits) → Formed t → locationCount t < 32 → processCount t < 4 → l .count ≤ 8
+    → Kept nothing t (withLocation (withProcess t (locationCount t)) l)
+initial-keeps t l f room free few = same-kept t u f (location-words s l words here few) counts same
+  where
+    s : List ℕ
+    s = withProcess t (locationCount t)
+
+    u : List ℕ
+    u = withLocation s l
+
+    words : Words s
+    words = simp length-set (f .words)
+
+    process : Kept nothing t s
+    process = process-keeps t (locationCount t) f free
+
+    stays : (j : ℕ) → (j ≡ 4 → ⊥) × (j ≡ 38 + processCount t → ⊥) → getD s j 0 ≡ getD t j 0
+    stays j h =
+        getD-set-other (set t (38 + processCount t) (locationCount t)) 4 j (processCount t + 1) 0 (h .0)
+        ∙ getD-set-other t (38 + processCount t) j (locationCount t) 0 (h .1)
+
+    n : locationCount s ≡ locationCount t
+    n = stays 2 (omega arith)
+
+    here : locationCount s < 32
+    here = omega (arith, n)
+
+    counts : (c : ℕ) → c < 6 → getD t c 0 ≤ getD u c 0
+    counts c h =
+        let more : getD t c 0 ≤ getD s c 0 =
+        sides c 4
+        (λ m. omega (arith, stays c (λ e. absurd (omega arith), λ e. absurd (omega arith))))
+        (λ e. rw e (process .counts .4))
+        (λ m. omega (arith, stays c (λ e. absurd (omega arith), λ e. absurd (omega arith))))
+        in
+        sides c 2
+        (λ m. omega (arith, more, location-same s l words here few c (omega arith)))
+        (λ e. rw (e, location-count s l words here few) (omega (arith, n)))
+        (λ m. omega (arith, more, location-same s l words here few c (omega arith)))
+
+    same : (j : ℕ) → 5 ≤ j → (Spare t j → ⊥) → getD u j 0 ≡ getD t j 0
+    same j h used =
+        location-same s l words here few j (
+          omega arith,
+          (λ e. used (subst (Spare t) (sym (e ∙ ap (λ (i : ℕ). 42 + i) n)) (spare-invariants t (f .counts) room))),
+          λ m. omega (arith, n, beyond t f room j used (omega (arith, n))),
+        )
+        ∙ stays j (omega arith, λ e. used (subst (Spare t) (sym e) (spare-place t (f .counts) free)))
 
 -- ---- u has t's words but for those of action a
 module _ (t u : List ℕ) (a : ℕ) (low : a < 32) (f : Formed t) (around : Around t u a) where
@@ -231,7 +306,7 @@ module _ (t u : List ℕ) (a : ℕ) (low : a < 32) (f : Formed t) (around : Arou
 
   around-kept : (more : Grows) → actionKind u a ≡ actionKind t a → (more ≢ resets-of a → resetsOf u a ≡ resetsOf t a) → (more ≢ effects-of a → EffectsKept t u a) → Kept more t u
   around-kept more kind resets effects = record {
-    counts = around-counts;
+    counts = six t u around-counts;
     kinds = λ v l. front t u a low f around (6 + v) (omega arith);
     values = stands t u a low f around .values;
     invariants = λ l m. invariants-same t u f (around .words) l m (stands t u a low f around .locations l m);
@@ -284,7 +359,7 @@ effect-keeps t a v ws f known room short =
 pub transition-keeps : (t : List ℕ) (key : ℕ) (ws : List ℕ) (l : Limits) → Formed t → transitionCount t < 128 → length ws ≤ 64 → l .count ≤ 8
     → Kept all-transitions t (withTransition t key ws l)
 transition-keeps t key ws l f room short few = record {
-  counts = λ c h. sides c 5 (λ m. omega (arith, same c (omega arith))) (λ e. rw (e, count) (omega arith)) (λ m. absurd (omega arith));
+  counts = six t u (λ c h. sides c 5 (λ m. omega (arith, same c (omega arith))) (λ e. rw (e, count) (omega arith)) (λ m. absurd (omega arith)));
   kinds = λ v h. same (6 + v) (omega arith);
   values = λ v h. same (22 + v) (omega arith);
   invariants = λ i h. invariants-same t u f words i h (record { count = same (42 + i) (omega arith); group = λ j m. same _ (omega arith) });

@@ -5,4 +5,5 @@ pub mod ReadyParts
 pub mod BuildingLaws
 pub mod KeepLaws
 pub mod Stored
+pub mod KeptCalls
 pub mod Theorems

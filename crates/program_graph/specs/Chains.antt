@@ -6,6 +6,7 @@ use Rattle.grammar.specs.declared.values.Val.{Val}
 use Rattle.graph_tables.specs.declared.handed.Limits.{Limits}
 use Rattle.graph_tables.specs.declared.handed.Vars.{Vars}
 use Rattle.graph_edits.specs.Edits.{LimitsFit}
+use Rattle.graph_edits.specs.Lists.{Grows, nothing, resets-of, effects-of, all-transitions}
 use Rattle.program_graph.specs.Building.{payloadOf, newVarOf, newClockOf, newActionOf, newLocationOf, newProcessOf, addResetOf, addEffectOf, newSendOf, newReceiveOf, newTimedLocationOf, newInitialOf, addTransitionOf}
 
 -- a call, with what is handed to it
@@ -37,6 +38,21 @@ after t (new-receive v) = newReceiveOf t v .table
 after t (new-timed-location l) = newTimedLocationOf t l .table
 after t (new-initial-location l) = newInitialOf t l .table
 after t (add-transition pre a post guarded ws l) = addTransitionOf t pre a post guarded ws l .table
+
+-- what a call may add to of what was there; all else is kept, whatever it answers
+abbrev pub grows : Call → Grows
+grows (new-var v) = nothing
+grows new-clock = nothing
+grows new-action = nothing
+grows new-location = nothing
+grows (new-process l) = nothing
+grows (add-reset a clock) = resets-of a
+grows (add-effect a v ws) = effects-of a
+grows (new-send m count) = nothing
+grows (new-receive v) = nothing
+grows (new-timed-location l) = nothing
+grows (new-initial-location l) = nothing
+grows (add-transition pre a post guarded ws l) = all-transitions
 
 -- handed integers and times have 32 bits
 abbrev pub Fits : Call → Type 0
