@@ -5,5 +5,7 @@ pub mod ReadyParts
 pub mod BuildingLaws
 pub mod KeepLaws
 pub mod Stored
+pub mod RunLaws
+pub mod RunTheorems
 pub mod KeptCalls
 pub mod Theorems

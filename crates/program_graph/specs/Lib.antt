@@ -1,3 +1,4 @@
 pub mod Checks
 pub mod Building
 pub mod Chains
+pub mod Running

@@ -1,4 +1,5 @@
-// One program graph: building it. Its table is lent.
+// One program graph: building it on a lent table, and running it.
 pub mod answers;
 pub mod builder;
 mod checks;
+pub mod run;

@@ -1,0 +1,29 @@
+-- Laws of anyBelow, for loops that look for one number: none tested, one more, one that is found, all tested.
+use Prim.Native.Nat.{ℕ, zero, suc, _+_, _<_, _≤_}
+use mathlib.Core.Path.{_≡_, refl, sym, ap, subst, _∙_}
+use mathlib.Core.Bool.{Bool, true, false, _||_, or-true}
+use mathlib.Core.Logic.{⊎-elim}
+use native.Mathlib.Nat.{le-of-suc-le-suc, not-suc-le-zero, eq-or-lt-of-le, le-antisymm}
+use native.Mathlib.Numerals.{add-one}
+use Rattle.laws.specs.Below.{anyBelow}
+
+module _ (p : ℕ → Bool) where
+  pub any-none : anyBelow 0 p ≡ false
+  unfolding anyBelow
+  any-none = refl
+
+  pub any-more : (i : ℕ) → anyBelow i p ≡ false → p i ≡ false → anyBelow (i + 1) p ≡ false
+  unfolding anyBelow
+  any-more i h e = rw (add-one i, h) e
+
+  pub any-found : (n i : ℕ) → i < n → p i ≡ true → anyBelow n p ≡ true
+  unfolding anyBelow
+  any-found zero i l e = absurd (not-suc-le-zero l)
+  any-found (suc n) i l e =
+      ⊎-elim
+      (λ (q : i ≡ n). ap (λ (b : Bool). anyBelow n p || b) (ap p (sym q) ∙ e) ∙ or-true (anyBelow n p))
+      (λ (m : i < n). ap (λ (b : Bool). b || p n) (any-found n i m e))
+      (eq-or-lt-of-le (le-of-suc-le-suc l))
+
+  pub any-done : (n i : ℕ) → i ≤ n → n ≤ i → anyBelow i p ≡ false → anyBelow n p ≡ false
+  any-done n i l m h = subst (λ (k : ℕ). anyBelow k p ≡ false) (le-antisymm l m) h

@@ -1,0 +1,38 @@
+use mathlib.Core.Path.{refl}
+use mathlib.Core.Bool.{false}
+use borrow.Author.Needs.{needs}
+use Rattle.laws.proofs.Tests.{held, failed}
+use Rattle.laws.proofs.Ladder.{passed, stopped}
+use Rattle.graph_tables.proofs.SoundLaws.{sound}
+use Rattle.program_graph.specs.Running.{newRunOf}
+use Rattle.program_graph.proofs.run.ProgramGraphRun.new.Statement.{statement}
+use Rattle.program_graph.proofs.run.ProgramGraphRun.new.Tie as tie
+
+returns : tie.Need-returns
+unfolding newRunOf
+returns c =
+    let n = c .before in
+    let a = n .before in
+    rw (c .refused .ensures, n .no-run .ensures) (stopped _ _ (failed (a .before .well-formed .ensures) (a .if1 .taken)))
+
+fresh-requires : tie.Need-fresh-requires
+fresh-requires c κs = sound _ false (held (c .before .well-formed .ensures) (c .if1 .left))
+
+returns-2 : tie.Need-returns-2
+unfolding newRunOf
+returns-2 c =
+    let f = c .before in
+    let a = f .before in
+    rw (c .accepted .ensures, f .fresh .ensures) (passed _ (held (a .before .well-formed .ensures) (a .if1 .left)) refl)
+
+pub new-spec : {M : Type 1} → statement M
+new-spec =
+    tie.close
+    (tie.spec
+    (λ c κs. search needs)
+    (λ c κs. search needs)
+    (λ c κs. search needs)
+    returns
+    fresh-requires
+    (λ c κs. search needs)
+    returns-2)
