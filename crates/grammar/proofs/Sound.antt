@@ -171,7 +171,7 @@ binary-alike Less = ints-alike (λ a b. boolean (ltZ a b)) Kind.Boolean (λ x y.
 binary-alike LessOrEqual = ints-alike (λ a b. boolean (leZ a b)) Kind.Boolean (λ x y. refl)
 
 -- every variable that has a kind holds a value of it
-pub Fit : List Slot → List ℕ → Type 0
+unfoldable pub Fit : List Slot → List ℕ → Type 0
 Fit vars kinds = (n : ℕ) → Of (variableOf vars n) (variableKind kinds n)
 
 module _ (vars : List Slot) (kinds : List ℕ) (fit : Fit vars kinds) where

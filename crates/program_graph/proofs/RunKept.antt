@@ -1,0 +1,276 @@
+-- A step and a wait keep a run one of its table's.
+use Prim.Native.Nat.{ℕ, zero, suc, _+_, _<_, _≤_}
+use mathlib.Core.Path.{_≡_, refl, sym, ap, subst, _∙_}
+use mathlib.Core.Bool.{Bool, true, false, cond}
+use mathlib.Core.List.{List, [], _∷_}
+use mathlib.Core.Logic.{⊎-elim}
+use native.Mathlib.Nat.{le-of-suc-le-suc, not-suc-le-zero, eq-or-lt-of-le}
+use native.Mathlib.Decide.{ℕ-discrete}
+use native.Mathlib.Omega.{arith}
+use lib.Dec.{eqb, ltb}
+use lib.ListN.{length, getD, drop, set, length-set, length-drop, List·getD-eq-default}
+use lib.Seq.{getD-take, getD-drop, getD-set-same, getD-set-other, length-take-le}
+use borrow.Author.Tests.{eqb-true, eqb-false, eq-eqb, ltb-true, ltb-false, lt-ltb}
+use Rattle.laws.specs.Ladder.{unless}
+use Rattle.laws.specs.Below.{allBelow}
+use Rattle.laws.proofs.BelowLaws.{and-first, and-rest, and-both, all-at, all-from, all-kept}
+use Rattle.grammar.specs.Values.{kindOf, kindWord}
+use Rattle.grammar.specs.Typing.{kindedAt, variableKind}
+use Rattle.grammar.specs.Bits.{fromBits}
+use Rattle.grammar.specs.Evaluation.{blank, variableOf, evaluationOf}
+use Rattle.grammar.specs.declared.values.«Type».{«Type» as Kind}
+use Rattle.grammar.specs.declared.values.Val.{Val}
+use Rattle.grammar.specs.declared.values.Val.the-variants.{Boolean, Integer}
+use Rattle.grammar.specs.declared.values.Slot.{Slot}
+use Rattle.grammar.specs.declared.evaluation.Evaluation.{Evaluation}
+use Rattle.grammar.specs.declared.evaluation.Evaluated.{Evaluated}
+use Rattle.grammar.specs.declared.evaluation.Evaluated.the-variants.{Known, NoValue}
+use Rattle.grammar.proofs.Sound.{HasKind, Of, Fit}
+use Rattle.grammar.proofs.Theorems.{typed-value}
+use Rattle.graph_tables.specs.declared.refusals.Refusal.the-variants as R
+use Rattle.graph_tables.specs.Words.{variableCount, clockCount, locationCount, actionCount, processCount, kindAt, kindsOf, valueAt, placeAt, actionKind, resetCount, effectCount, effectVar, effectItems, epsilon}
+use Rattle.graph_tables.specs.Formed.{wellFormed}
+use Rattle.graph_tables.specs.Sound.{Sound}
+use Rattle.graph_tables.proofs.SoundLaws.{sound}
+use Rattle.graph_steps.specs.Steps.{clocksAfter, assigned, effectsBelow, effectedOf, placedBelow, postKnown}
+use Rattle.graph_steps.specs.declared.effects.Effected.{Effected}
+use Rattle.graph_steps.proofs.StepLaws.{reset-length, shifted-length, placed-length, placed-at, effects-length}
+use Rattle.program_graph.specs.declared.run.ProgramGraphRun.{ProgramGraphRun}
+use Rattle.program_graph.specs.declared.run.Stepped.{Stepped}
+use Rattle.program_graph.specs.Running.{refusedRun, acceptedRun, placeKnown, varFits, countsSame, runFormed, fitsTable, movedTo, idleOf, plainOf, actedOf, stepOf, transitionOf, waitFits, waitHolds, later, waitedOf, waitOf, startPlaces, startValue, startVars, freshRun, noRun, newRunOf}
+use Rattle.program_graph.proofs.RunLaws.{table-formed, fitting, same-variables, few-processes}
+
+-- the arrays of a run have their sizes, as every run that is handed in has
+pub record Sized (run : ProgramGraphRun) : Type 0 where
+  pub places : length (run .places) ≡ 4
+  pub vars : length (run .vars) ≡ 16
+  pub clocks : length (run .clocks) ≡ 8
+
+-- what a rung gives: the refusal, or where its test holds the rest
+rung : (P : Stepped → Type 0) (b : Bool) (r s : Stepped) → P r → (b ≡ true → P s) → P (unless b r s)
+unfolding unless
+rung P true r s h k = k refl
+rung P false r s h k = h
+
+-- the variables of a run that is one of its table's fit the table
+vars-fit : (t : List ℕ) (run : ProgramGraphRun) → runFormed t run ≡ true → allBelow (variableCount t) (varFits t (run .vars)) ≡ true
+unfolding runFormed
+vars-fit t run h = subst (λ (n : ℕ). allBelow n (varFits t (run .vars)) ≡ true) (same-variables t run h) (and-rest _ _ (and-rest _ _ h))
+
+-- ---- variables of their kinds
+-- a word that stands reads alike with any default
+same-word : (l : List ℕ) (i d e : ℕ) → i < length l → getD l i d ≡ getD l i e
+same-word [] i d e h = absurd (not-suc-le-zero h)
+same-word (x ∷ xs) zero d e h = refl
+same-word (x ∷ xs) (suc i) d e h = same-word xs i d e (le-of-suc-le-suc h)
+
+-- a value has the kind that its own word stands for
+own-kind : (v : Val) → Of (Known v) (kindedAt (kindWord (kindOf v)))
+own-kind (Boolean b) = refl
+own-kind (Integer n) = refl
+
+-- Variables that fit the table have their kinds.
+pub fit-vars : (t : List ℕ) (vars : List Slot) → Sound t → allBelow (variableCount t) (varFits t vars) ≡ true → Fit vars (kindsOf t)
+unfolding Fit varFits
+fit-vars t vars s h = λ n. by n (ltb n (variableCount t)) refl
+  where
+    by : (n : ℕ) (b : Bool) → ltb n (variableCount t) ≡ b → Of (variableOf vars n) (variableKind (kindsOf t) n)
+    by n true e =
+        let l : n < variableCount t = ltb-true _ _ e in
+        let w : length t ≡ 46890 = s .words in
+        let f : variableCount t ≤ 16 = s .counts .variables in
+        let k : getD (kindsOf t) n 2 ≡ kindAt t n
+        = getD-take (variableCount t) (drop 6 t) n 2 l ∙ getD-drop 6 t n 2 ∙ same-word t (6 + n) 2 0 (omega arith) in
+        let x : kindWord (kindOf (getD vars n blank .value)) ≡ getD (kindsOf t) n 2
+        = eqb-true _ _ (all-at (varFits t vars) (variableCount t) n h l) ∙ sym k in
+        let q : variableOf vars n ≡ Known (getD vars n blank .value)
+        = ap (λ (b : Bool). cond b (Known (getD vars n blank .value)) NoValue) (lt-ltb n 16 (omega arith)) in
+        subst (λ (v : Evaluated). Of v (variableKind (kindsOf t) n)) (sym q)
+        (subst (λ (m : ℕ). Of (Known (getD vars n blank .value)) (kindedAt m)) x (own-kind (getD vars n blank .value)))
+    by n false e =
+        let w : length t ≡ 46890 = s .words in
+        let f : variableCount t ≤ 16 = s .counts .variables in
+        let z : length (kindsOf t) ≡ variableCount t = length-take-le (variableCount t) (drop 6 t) (rw (length-drop 6 t, w) (omega arith)) in
+        let q : getD (kindsOf t) n 2 ≡ 2 = List·getD-eq-default (kindsOf t) 2 (omega (arith, z, ltb-false n (variableCount t) e)) in
+        subst (λ (m : ℕ). Of (variableOf vars n) (kindedAt m)) (sym q) tt
+
+-- The variables of a run that is one of its table's have their kinds.
+pub fit : (t : List ℕ) (run : ProgramGraphRun) → Sound t → runFormed t run ≡ true → Fit (run .vars) (kindsOf t)
+fit t run s h = fit-vars t (run .vars) s (vars-fit t run h)
+
+-- ---- effects
+-- a store of a value of its variable's kind keeps every variable fitting
+set-fits : (t : List ℕ) (vars : List Slot) (v : ℕ) (x : Val) (n : ℕ) → kindWord (kindOf x) ≡ kindAt t v → v < length vars
+    → allBelow n (varFits t vars) ≡ true → allBelow n (varFits t (set vars v (record { value = x }))) ≡ true
+unfolding varFits
+set-fits t vars v x n e l h = all-kept (varFits t vars) (varFits t (set vars v (record { value = x }))) n (λ i m. by i (ℕ-discrete i v)) h
+  where
+    by : (i : ℕ) → Dec (i ≡ v) → varFits t vars i ≡ true → varFits t (set vars v (record { value = x })) i ≡ true
+    by i (yes q) k =
+        subst (λ (j : ℕ). varFits t (set vars v (record { value = x })) j ≡ true) (sym q)
+        (eq-eqb _ _ (ap (λ (s : Slot). kindWord (kindOf (s .value))) (getD-set-same vars v (record { value = x }) blank l) ∙ e))
+    by i (no q) k =
+        subst (λ (s : Slot). eqb (kindWord (kindOf (s .value))) (kindAt t i) ≡ true) (sym (getD-set-other vars v i (record { value = x }) blank q)) k
+
+-- one effect whose value has its variable's kind
+assigned-fits : (t : List ℕ) (s : Effected) (v : ℕ) (e : Evaluated) (rest n : ℕ) (k : Kind) → HasKind e k → kindWord k ≡ kindAt t v → v < length (s .vars)
+    → allBelow n (varFits t (s .vars)) ≡ true → allBelow n (varFits t (assigned s v e rest .vars)) ≡ true
+assigned-fits t s v (Known x) rest n k q e l h = set-fits t (s .vars) v x n (ap kindWord q ∙ e) l h
+assigned-fits t s v NoValue rest n k q e l h = h
+
+module _ (t : List ℕ) (sound : Sound t) (a : ℕ) (known : a < actionCount t) (plain : actionKind t a ≡ 0) where
+  -- The effects of a plain action keep every variable of its kind.
+  pub effects-keep : (vars : List Slot) (word n : ℕ) → n ≤ effectCount t a → length vars ≡ 16 → allBelow (variableCount t) (varFits t vars) ≡ true
+      → allBelow (variableCount t) (varFits t (effectsBelow t a (record { vars = vars; word = word; fits = true }) n .vars)) ≡ true
+  unfolding effectsBelow evaluationOf
+  effects-keep vars word zero m z h = h
+  effects-keep vars word (suc n) m z h =
+      let start : Effected = record { vars = vars; word = word; fits = true } in
+      let s : Effected = effectsBelow t a start n in
+      let turn : Evaluation = evaluationOf (s .vars) (s .word) (effectItems t a n) in
+      let before : allBelow (variableCount t) (varFits t (s .vars)) ≡ true = effects-keep vars word n (omega arith) z h in
+      let e = sound .action a known .plain plain .effect n m in
+      let x = e .expression in
+      assigned-fits t s (effectVar t a n) (turn .value) (turn .rest) (variableCount t) (x .kind)
+      (typed-value (s .vars) (kindsOf t) (fit-vars t (s .vars) sound before) (effectItems t a n) (x .kind) (x .typed) (s .word)) (e .same)
+      (omega (arith, e .var, sound .counts .variables, effects-length t a start n, z)) before
+
+-- ---- a wait
+-- A wait keeps a run one of its table's, whatever it answers.
+pub wait-keeps : (t : List ℕ) (run : ProgramGraphRun) (delta : ℕ) → fitsTable t run ≡ true → Sized run
+    → (fitsTable t (waitOf t run delta .run) ≡ true) × Sized (waitOf t run delta .run)
+unfolding waitOf waitedOf fitsTable runFormed countsSame
+wait-keeps t run delta h z =
+    let P : Stepped → Type 0 = λ s. (fitsTable t (s .run) ≡ true) × Sized (s .run) in
+    rung P (fitsTable t run) (refusedRun R.BadState run) _ (h, z)
+    (λ e. rung P (waitFits run delta) (refusedRun R.Overflow run) _ (h, z)
+    (λ e. rung P (waitHolds t run delta) (refusedRun R.Invariant run) (acceptedRun (later run delta)) (h, z)
+    (λ e. (h, record { places = z .places; vars = z .vars; clocks = shifted-length (run .clocks) delta (run .timers) ∙ z .clocks }))))
+
+-- ---- a step
+-- one of the table's, its arrays of their sizes
+abbrev Kept : List ℕ → Stepped → Type 0
+Kept t s = (runFormed t (s .run) ≡ true) × Sized (s .run)
+
+-- a run whose processes moved to known posts, and whose variables fit
+moved-kept : (t : List ℕ) (run : ProgramGraphRun) (posts : List ℕ) (vars : List Slot) (clocks : List ℕ) → Sound t → runFormed t run ≡ true → Sized run
+    → allBelow (length posts) (postKnown t posts) ≡ true → length posts ≡ run .processes
+    → allBelow (variableCount t) (varFits t vars) ≡ true → length vars ≡ 16 → length clocks ≡ 8 → Kept t (acceptedRun (movedTo run posts vars clocks))
+unfolding runFormed countsSame placeKnown postKnown
+moved-kept t run posts vars clocks s h z known e v vz cz =
+    let n : ℕ = run .processes in
+    let room : n ≤ length (run .places) = omega (arith, few-processes t run s h, z .places) in
+    let at : (p : ℕ) → p < n → placeKnown t (placedBelow (run .places) posts n) p ≡ true
+    = λ p l. subst (λ (x : ℕ). ltb x (locationCount t) ≡ true) (sym (placed-at (run .places) posts n p l room))
+    (all-at (postKnown t posts) (length posts) p known (omega arith)) in (
+      and-both (and-first _ _ h)
+          (and-both (all-from (placeKnown t (placedBelow (run .places) posts n)) n at)
+          (subst (λ (m : ℕ). allBelow m (varFits t vars) ≡ true) (sym (same-variables t run h)) v)),
+      record { places = placed-length (run .places) posts n ∙ z .places; vars = vz; clocks = cz },
+    )
+
+-- A step by EPSILON keeps a run one of its table's, whatever it answers.
+pub idle-keeps : (t : List ℕ) (run : ProgramGraphRun) (posts : List ℕ) → Sound t → runFormed t run ≡ true → Sized run
+    → allBelow (length posts) (postKnown t posts) ≡ true → length posts ≡ run .processes
+    → (runFormed t (idleOf t run posts .run) ≡ true) × Sized (idleOf t run posts .run)
+unfolding idleOf
+idle-keeps t run posts s h z known e =
+    rung (Kept t) _ (refusedRun R.UnsatisfiedGuard run) _ (h, z)
+    (λ q. moved-kept t run posts (run .vars) (run .clocks) s h z known e (vars-fit t run h) (z .vars) (z .clocks))
+
+-- A step by a plain action keeps a run one of its table's, whatever it answers.
+pub plain-keeps : (t : List ℕ) (run : ProgramGraphRun) (a : ℕ) (posts : List ℕ) (word : ℕ) → Sound t → runFormed t run ≡ true → Sized run
+    → a < actionCount t → actionKind t a ≡ 0 → allBelow (length posts) (postKnown t posts) ≡ true → length posts ≡ run .processes
+    → (runFormed t (plainOf t run a posts word .run) ≡ true) × Sized (plainOf t run a posts word .run)
+unfolding plainOf
+plain-keeps t run a posts word s h z l k known e =
+    rung (Kept t) _ (refusedRun R.UnsatisfiedGuard run) _ (h, z)
+    (λ q. rung (Kept t) _ (refusedRun R.Overflow run) _ (h, z)
+    (λ r. moved-kept t run posts (effectedOf t a (run .vars) word .vars) (clocksAfter t a (run .clocks)) s h z known e
+    (effects-keep t s a l k (run .vars) word (effectCount t a) (omega arith) (z .vars) (vars-fit t run h))
+    (effects-length t a _ (effectCount t a) ∙ z .vars) (reset-length t a (run .clocks) (resetCount t a) ∙ z .clocks)))
+
+-- a choice between two that are kept
+choice : (P : Stepped → Type 0) (b : Bool) (r s : Stepped) → P r → P s → P (cond b r s)
+choice P true r s h k = h
+choice P false r s h k = k
+
+-- A step keeps a run one of its table's, whatever it answers.
+pub transition-keeps : (t : List ℕ) (run : ProgramGraphRun) (a : ℕ) (posts : List ℕ) (word : ℕ) → fitsTable t run ≡ true → Sized run
+    → (fitsTable t (transitionOf t run a posts word .run) ≡ true) × Sized (transitionOf t run a posts word .run)
+unfolding fitsTable transitionOf stepOf actedOf
+transition-keeps t run a posts word f z = (and-both (table-formed t run f) (kept .0), kept .1)
+  where
+    s : Sound t
+    s = fitting t run f .0
+
+    h : runFormed t run ≡ true
+    h = fitting t run f .1
+
+    kept : Kept t (transitionOf t run a posts word)
+    kept =
+        rung (Kept t) _ (refusedRun R.BadState run) _ (h, z)
+        (λ q. rung (Kept t) _ (refusedRun R.MismatchingPostStates run) _ (h, z)
+        (λ e. rung (Kept t) _ (refusedRun R.MissingLocation run) _ (h, z)
+        (λ known. choice (Kept t) (eqb a epsilon) _ _ (idle-keeps t run posts s h z known (eqb-true _ _ e))
+        (rung (Kept t) _ (refusedRun R.MissingAction run) _ (h, z)
+        (λ l. rung (Kept t) _ (refusedRun R.Communication run) _ (h, z)
+        (λ k. plain-keeps t run a posts word s h z (ltb-true _ _ l) (eqb-true _ _ k) known (eqb-true _ _ e)))))))
+
+-- ---- a fresh run
+module _ (t : List ℕ) where
+  start-length : (n : ℕ) → length (startPlaces t n) ≡ 4
+  unfolding startPlaces
+  start-length zero = refl
+  start-length (suc n) = length-set (startPlaces t n) n (placeAt t n) ∙ start-length n
+
+  -- each of the first n processes is where it starts
+  start-at : (n p : ℕ) → p < n → n ≤ 4 → getD (startPlaces t n) p 0 ≡ placeAt t p
+  unfolding startPlaces
+  start-at zero p l h = absurd (not-suc-le-zero l)
+  start-at (suc n) p l h =
+      ⊎-elim
+      (λ (e : p ≡ n). rw e (getD-set-same (startPlaces t n) n (placeAt t n) 0 (rw (start-length n) h)))
+      (λ (m : p < n). getD-set-other (startPlaces t n) n p (placeAt t n) 0 (λ e. omega arith) ∙ start-at n p m (omega arith))
+      (eq-or-lt-of-le (le-of-suc-le-suc l))
+
+  values-length : (n : ℕ) → length (startVars t n) ≡ 16
+  unfolding startVars
+  values-length zero = refl
+  values-length (suc n) = length-set (startVars t n) n (record { value = startValue t n }) ∙ values-length n
+
+  -- the value at which a variable starts has its kind
+  start-kind : (v : ℕ) → kindAt t v < 2 → kindWord (kindOf (startValue t v)) ≡ kindAt t v
+  start-kind v l = by (eqb (kindAt t v) 0) refl
+    where
+      by : (b : Bool) → eqb (kindAt t v) 0 ≡ b → kindWord (kindOf (cond b (Boolean (eqb (valueAt t v) 1)) (Integer (fromBits (valueAt t v))))) ≡ kindAt t v
+      by true e = sym (eqb-true _ _ e)
+      by false e = let n : kindAt t v ≡ 0 → ⊥ = eqb-false _ _ e in omega arith
+
+  -- the first n variables fit
+  values-fit : (n : ℕ) → n ≤ 16 → ((v : ℕ) → v < n → kindAt t v < 2) → allBelow n (varFits t (startVars t n)) ≡ true
+  unfolding startVars allBelow varFits
+  values-fit zero l k = refl
+  values-fit (suc n) l k =
+      let m : n < length (startVars t n) = rw (values-length n) l in
+      let e : kindWord (kindOf (startValue t n)) ≡ kindAt t n = start-kind n (k n (omega arith)) in
+      and-both (set-fits t (startVars t n) n (startValue t n) n e m (values-fit n (omega arith) (λ v q. k v (omega arith))))
+      (eq-eqb _ _ (ap (λ (s : Slot). kindWord (kindOf (s .value))) (getD-set-same (startVars t n) n (record { value = startValue t n }) blank m) ∙ e))
+
+  -- A fresh run of a well-formed table is one of it.
+  pub fresh-fits : wellFormed t false ≡ true → (fitsTable t (newRunOf t .run) ≡ true) × Sized (newRunOf t .run)
+  unfolding newRunOf unless fitsTable runFormed countsSame placeKnown
+  fresh-fits h =
+      let s : Sound t = sound t false h in
+      let n : ℕ = processCount t in
+      let few : n ≤ 4 = s .counts .processes in
+      let at : (p : ℕ) → p < n → placeKnown t (startPlaces t n) p ≡ true
+      = λ p l. lt-ltb (getD (startPlaces t n) p 0) (locationCount t) (rw (start-at n p l few) (s .process p l .place)) in
+      let counts : countsSame t (freshRun t) ≡ true = and-both (eq-eqb n n refl) (and-both (eq-eqb (variableCount t) _ refl) (eq-eqb (clockCount t) _ refl)) in
+      let values : allBelow (variableCount t) (varFits t (startVars t (variableCount t))) ≡ true
+      = values-fit (variableCount t) (s .counts .variables) (λ v l. s .variable v l .kind) in
+      let P : Stepped → Type 0 = λ x. (fitsTable t (x .run) ≡ true) × Sized (x .run) in
+      subst (λ (b : Bool). P (unless b (refusedRun R.BadState noRun) (acceptedRun (freshRun t)))) (sym h) (
+        and-both h (and-both counts (and-both (all-from (placeKnown t (startPlaces t n)) n at) values)),
+        record { places = start-length n; vars = values-length (variableCount t); clocks = refl },
+      )
