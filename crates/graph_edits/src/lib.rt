@@ -1,6 +1,2 @@
 // A part more in a graph's table: every change of its words. Each asks for a table that has room for the part.
-pub mod actions;
-pub mod limits;
-pub mod locations;
-pub mod rows;
-pub mod transitions;
+pub mod inner;

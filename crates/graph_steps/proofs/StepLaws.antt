@@ -17,7 +17,7 @@ use Rattle.grammar.specs.declared.evaluation.Evaluated.{Evaluated}
 use Rattle.grammar.specs.declared.evaluation.Evaluated.the-variants.{Known, NoValue}
 use Rattle.graph_tables.specs.Words.{locationCount, resetAt, effectVar, effectItems}
 use Rattle.graph_steps.specs.Steps.{postKnown, clockFits, resetBelow, shiftedBelow, placedBelow, assigned, effectsBelow}
-use Rattle.graph_steps.specs.declared.effects.Effected.{Effected}
+use Rattle.graph_steps.specs.declared.inner.effects.Effected.{Effected}
 
 -- ---- the tests of posts and clocks, from the orders
 pub post-known : (t posts : List ℕ) (p : ℕ) → getD posts p 0 < locationCount t → postKnown t posts p ≡ true

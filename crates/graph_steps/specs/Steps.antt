@@ -13,7 +13,7 @@ use Rattle.grammar.specs.declared.values.Slot.{Slot}
 use Rattle.grammar.specs.declared.evaluation.Evaluated.{Evaluated}
 use Rattle.grammar.specs.declared.evaluation.Evaluated.the-variants.{Known, NoValue}
 use Rattle.graph_tables.specs.Words.{locationCount, transitionCount, invariantCount, resetCount, resetAt, effectCount, effectVar, effectItems, keyOf, guardLength, guardItems, limitCount, preOf, actionOf, postOf, clockOf, limitRange}
-use Rattle.graph_steps.specs.declared.effects.Effected.{Effected}
+use Rattle.graph_steps.specs.declared.inner.effects.Effected.{Effected}
 
 -- ---- limits, on the clocks that are given
 unfoldable pub limitHolds : List ℕ → ℕ → List ℕ → ℕ → Bool

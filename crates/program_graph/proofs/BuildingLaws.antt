@@ -1,17 +1,16 @@
 -- Laws for calls that build.
 use Prim.Native.Nat.{ℕ}
 use mathlib.Core.Path.{_≡_, sym, ap, _∙_}
-use mathlib.Core.Bool.{Bool, true, false, not}
+use mathlib.Core.Bool.{Bool, true}
 use mathlib.Core.List.{List}
-use borrow.Author.Tests.{eqb-true, eq-eqb, ne-eqb}
-use lib.Dec.{eqb}
+use borrow.Author.Tests.{eqb-true}
 use Rattle.laws.proofs.BelowLaws.{and-first, and-rest}
 use Rattle.graph_tables.specs.Words.{Words}
 use Rattle.graph_tables.specs.Formed.{Counted, wellFormed}
 use Rattle.graph_tables.proofs.FormedLaws.{counted}
 use Rattle.graph_tables.specs.declared.refusals.Refusal.{Refusal}
-use Rattle.program_graph.specs.declared.answers.Done.{Done}
-use Rattle.program_graph.specs.declared.answers.Done.the-variants as Done
+use Rattle.graph_tables.specs.declared.answers.Done.{Done}
+use Rattle.graph_tables.specs.declared.answers.Done.the-variants as Done
 use Rattle.program_graph.specs.Building.{Outcome, refusedWith, placedAt, notDone, doneWith, doneIf, placedIf}
 
 -- an answer and a table that are one outcome's
@@ -38,10 +37,3 @@ words-of t b h = eqb-true _ _ (and-first _ _ h)
 pub counted-of : (t : List ℕ) (b : Bool) → wellFormed t b ≡ true → Counted t
 unfolding wellFormed
 counted-of t b h = counted t (and-first _ _ (and-rest _ _ h))
-
--- the test that two numbers differ: it passes, or it refuses
-pub other : {a b : ℕ} → (a ≡ b → ⊥) → not (eqb a b) ≡ true
-other {a} {b} h = ap not (ne-eqb a b h)
-
-pub that : {a b : ℕ} → a ≡ b → not (eqb a b) ≡ false
-that {a} {b} e = ap not (eq-eqb a b e)

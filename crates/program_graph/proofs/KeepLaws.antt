@@ -27,12 +27,12 @@ use Rattle.graph_edits.proofs.LocationFormed.{location-formed, initial-formed}
 use Rattle.graph_edits.proofs.EffectFormed.{effect-formed}
 use Rattle.graph_edits.proofs.MessageFormed.{send-formed, receive-formed}
 use Rattle.graph_edits.proofs.TransitionFormed.{GuardFits, transition-formed}
-use Rattle.program_graph.specs.declared.answers.Done.{Done}
-use Rattle.program_graph.specs.declared.answers.Done.the-variants.{Accepted, Refused}
-use Rattle.program_graph.specs.Checks.{resetCheck, effectCheck, sendCheck, receiveCheck, locationCheck, initialCheck, transitionCheck}
+use Rattle.graph_tables.specs.declared.answers.Done.{Done}
+use Rattle.graph_tables.specs.declared.answers.Done.the-variants.{Accepted, Refused}
+use Rattle.graph_checks.specs.Checks.{resetCheck, effectCheck, sendCheck, receiveCheck, locationCheck, initialCheck, transitionCheck}
 use Rattle.program_graph.specs.Building.{Outcome, refusedWith, placedAt, notDone, doneWith, doneIf, placedIf, payloadOf, newVarOf, newClockOf, newActionOf, newLocationOf, newProcessOf, addResetOf, addEffectOf, newSendOf, newReceiveOf, newTimedLocationOf, newInitialOf, guardOf, addTransitionOf}
-use Rattle.program_graph.proofs.ReadyActions.{reset-ready, effect-ready, send-ready, receive-ready}
-use Rattle.program_graph.proofs.ReadyParts.{location-ready, initial-ready, GuardReady, transition-ready}
+use Rattle.graph_checks.proofs.ReadyActions.{reset-ready, effect-ready, send-ready, receive-ready}
+use Rattle.graph_checks.proofs.ReadyParts.{location-ready, initial-ready, GuardReady, transition-ready}
 
 abbrev WellFormed : List ℕ → Type 0
 WellFormed t = wellFormed t true ≡ true

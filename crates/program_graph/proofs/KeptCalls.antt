@@ -16,14 +16,14 @@ use Rattle.graph_tables.proofs.KeptLaws.{apart}
 use Rattle.graph_edits.specs.Edits.{withProcess, keyWith}
 use Rattle.graph_edits.specs.Lists.{Grows, nothing, Kept}
 use Rattle.graph_edits.proofs.PartsKept.{kept-same, var-keeps, clock-keeps, process-keeps, action-keeps, send-keeps, receive-keeps, location-keeps, initial-keeps, reset-keeps, effect-keeps, transition-keeps}
-use Rattle.program_graph.specs.declared.answers.Done.{Done}
-use Rattle.program_graph.specs.declared.answers.Done.the-variants.{Accepted, Refused}
-use Rattle.program_graph.specs.Checks.{resetCheck, effectCheck, sendCheck, receiveCheck, locationCheck, initialCheck, transitionCheck}
+use Rattle.graph_tables.specs.declared.answers.Done.{Done}
+use Rattle.graph_tables.specs.declared.answers.Done.the-variants.{Accepted, Refused}
+use Rattle.graph_checks.specs.Checks.{resetCheck, effectCheck, sendCheck, receiveCheck, locationCheck, initialCheck, transitionCheck}
 use Rattle.program_graph.specs.Building.{Outcome, refusedWith, placedAt, notDone, doneWith, doneIf, placedIf, newVarOf, newClockOf, newActionOf, newLocationOf, newProcessOf, addResetOf, addEffectOf, newSendOf, newReceiveOf, newTimedLocationOf, newInitialOf, guardOf, addTransitionOf}
 use Rattle.program_graph.specs.Chains.{Call, new-var, new-clock, new-action, new-location, new-process, add-reset, add-effect, new-send, new-receive, new-timed-location, new-initial-location, add-transition, after, grows}
 use Rattle.program_graph.proofs.KeepLaws.{guard-fits}
-use Rattle.program_graph.proofs.ReadyActions.{reset-ready, effect-ready, send-ready, receive-ready}
-use Rattle.program_graph.proofs.ReadyParts.{location-ready, initial-ready, transition-ready}
+use Rattle.graph_checks.proofs.ReadyActions.{reset-ready, effect-ready, send-ready, receive-ready}
+use Rattle.graph_checks.proofs.ReadyParts.{location-ready, initial-ready, transition-ready}
 
 -- ---- what is refused leaves the table, and so keeps its parts
 rung : {A : Type 0} (t : List ℕ) (b : Bool) (refused rest : Outcome A) → refused .table ≡ t → (b ≡ true → Kept nothing t (rest .table)) → Kept nothing t (unless b refused rest .table)

@@ -1,7 +1,3 @@
-pub mod CheckLaws
-pub mod TypedLaws
-pub mod ReadyActions
-pub mod ReadyParts
 pub mod BuildingLaws
 pub mod KeepLaws
 pub mod Stored

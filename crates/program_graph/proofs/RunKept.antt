@@ -33,7 +33,7 @@ use Rattle.graph_tables.specs.Formed.{wellFormed}
 use Rattle.graph_tables.specs.Sound.{Sound}
 use Rattle.graph_tables.proofs.SoundLaws.{sound}
 use Rattle.graph_steps.specs.Steps.{clocksAfter, assigned, effectsBelow, effectedOf, placedBelow, postKnown}
-use Rattle.graph_steps.specs.declared.effects.Effected.{Effected}
+use Rattle.graph_steps.specs.declared.inner.effects.Effected.{Effected}
 use Rattle.graph_steps.proofs.StepLaws.{reset-length, shifted-length, placed-length, placed-at, effects-length}
 use Rattle.program_graph.specs.declared.run.ProgramGraphRun.{ProgramGraphRun}
 use Rattle.program_graph.specs.declared.run.Stepped.{Stepped}

@@ -22,8 +22,8 @@ use Rattle.graph_tables.specs.Words.{transitionCount, invariantCount, resetCoun
 use Rattle.graph_steps.specs.Steps.{limitHolds, limitsHold, invariantsHold, guardHolds, passesOf, candidateOf, leadsOf, processReady, readyOf, clocksAfter, effectedOf, placedBelow, shiftedBelow, placeHolds}
 use Rattle.graph_steps.proofs.StepLaws.{reset-at, reset-other, shifted-at, placed-at, effects-other}
 use Rattle.graph_steps.proofs.AnyLaws.{any-found}
-use Rattle.program_graph.specs.declared.answers.Done.{Done}
-use Rattle.program_graph.specs.declared.answers.Done.the-variants as Done
+use Rattle.graph_tables.specs.declared.answers.Done.{Done}
+use Rattle.graph_tables.specs.declared.answers.Done.the-variants as Done
 use Rattle.program_graph.specs.declared.run.ProgramGraphRun.{ProgramGraphRun}
 use Rattle.program_graph.specs.declared.run.Stepped.{Stepped}
 use Rattle.program_graph.specs.declared.run.Held.{Held}

@@ -11,15 +11,15 @@ use Rattle.graph_tables.proofs.KeptLaws.{apart}
 use Rattle.graph_edits.specs.Edits.{keyWith, withReset, withEffect, withLocation, withTransition}
 use Rattle.graph_edits.specs.Lists.{insertSorted, limitsOf, sortedLimits, resetsOf, effectsOf, StoredTransition, transitionsOf}
 use Rattle.graph_edits.proofs.ListLaws.{resets-list, effects-list, transitions-list, location-list}
-use Rattle.program_graph.specs.declared.answers.Done.{Done}
-use Rattle.program_graph.specs.declared.answers.Done.the-variants as Done
-use Rattle.program_graph.specs.declared.answers.Placed.the-variants as Placed
-use Rattle.program_graph.specs.Checks.{resetCheck, effectCheck, locationCheck, transitionCheck}
+use Rattle.graph_tables.specs.declared.answers.Done.{Done}
+use Rattle.graph_tables.specs.declared.answers.Done.the-variants as Done
+use Rattle.graph_tables.specs.declared.answers.Placed.the-variants as Placed
+use Rattle.graph_checks.specs.Checks.{resetCheck, effectCheck, locationCheck, transitionCheck}
 use Rattle.program_graph.specs.Building.{doneIf, placedIf, addResetOf, addEffectOf, newTimedLocationOf, guardOf, addTransitionOf}
 use Rattle.program_graph.proofs.BuildingLaws.{words-of, counted-of}
 use Rattle.program_graph.proofs.KeepLaws.{guard-fits}
-use Rattle.program_graph.proofs.ReadyActions.{reset-ready, effect-ready}
-use Rattle.program_graph.proofs.ReadyParts.{location-ready, transition-ready}
+use Rattle.graph_checks.proofs.ReadyActions.{reset-ready, effect-ready}
+use Rattle.graph_checks.proofs.ReadyParts.{location-ready, transition-ready}
 
 -- an accepted answer says that the check passed, and what the table is
 done-is : (c : Done) (t u : List ℕ) → doneIf c t u .answer ≡ Done.Accepted → (c ≡ Done.Accepted) × (doneIf c t u .table ≡ u)

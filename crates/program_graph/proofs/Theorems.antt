@@ -16,11 +16,11 @@ use Rattle.graph_tables.specs.declared.handed.Limits.{Limits}
 use Rattle.graph_tables.specs.declared.handed.Vars.{Vars}
 use Rattle.graph_tables.specs.Words.{Words, variableCount, clockCount, locationCount, actionCount}
 use Rattle.graph_tables.specs.Formed.{wellFormed, countsFormed, startedOf, partsFormed}
-use Rattle.program_graph.specs.declared.answers.Placed.{Placed}
-use Rattle.program_graph.specs.declared.answers.Placed.the-variants as Placed
-use Rattle.program_graph.specs.declared.answers.Done.{Done}
-use Rattle.program_graph.specs.declared.answers.Done.the-variants as Done
-use Rattle.program_graph.specs.Checks.{resetCheck, effectCheck, sendCheck, receiveCheck, locationCheck, initialCheck, transitionCheck}
+use Rattle.graph_tables.specs.declared.answers.Placed.{Placed}
+use Rattle.graph_tables.specs.declared.answers.Placed.the-variants as Placed
+use Rattle.graph_tables.specs.declared.answers.Done.{Done}
+use Rattle.graph_tables.specs.declared.answers.Done.the-variants as Done
+use Rattle.graph_checks.specs.Checks.{resetCheck, effectCheck, sendCheck, receiveCheck, locationCheck, initialCheck, transitionCheck}
 use Rattle.program_graph.specs.Building.{Outcome, refusedWith, placedAt, notDone, doneWith, doneIf, placedIf, emptyOf, newVarOf, newClockOf, newActionOf, newLocationOf, newProcessOf, addResetOf, addEffectOf, newSendOf, newReceiveOf, newTimedLocationOf, newInitialOf, addTransitionOf}
 use Rattle.program_graph.specs.Chains.{Call, new-var, new-clock, new-action, new-location, new-process, add-reset, add-effect, new-send, new-receive, new-timed-location, new-initial-location, add-transition, after, Fits, afterAll, AllFit}
 use Rattle.program_graph.proofs.KeepLaws.{var-keeps, clock-keeps, action-keeps, location-keeps, process-keeps, reset-keeps, effect-keeps, send-keeps, receive-keeps, timed-location-keeps, initial-keeps, transition-keeps}

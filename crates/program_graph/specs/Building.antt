@@ -19,13 +19,13 @@ use Rattle.graph_tables.specs.Handed.{noLimits}
 use Rattle.graph_tables.specs.Words.{variableCount, clockCount, locationCount, actionCount, processCount, kindAt, invariantCount}
 use Rattle.graph_tables.specs.Formed.{wellFormed, zeroInside}
 use Rattle.graph_edits.specs.Edits.{withVar, withClock, withAction, withProcess, withLocation, withReset, withEffect, withSend, withReceive, withTransition, keyWith}
-use Rattle.program_graph.specs.Checks.{resetCheck, effectCheck, sendCheck, receiveCheck, locationCheck, initialCheck, transitionCheck}
-use Rattle.program_graph.specs.declared.answers.Placed.{Placed}
-use Rattle.program_graph.specs.declared.answers.Placed.the-variants as Placed
-use Rattle.program_graph.specs.declared.answers.Done.{Done}
-use Rattle.program_graph.specs.declared.answers.Done.the-variants as Done
-use Rattle.program_graph.specs.declared.answers.VarType.{VarType}
-use Rattle.program_graph.specs.declared.answers.VarType.the-variants as VarType
+use Rattle.graph_checks.specs.Checks.{resetCheck, effectCheck, sendCheck, receiveCheck, locationCheck, initialCheck, transitionCheck}
+use Rattle.graph_tables.specs.declared.answers.Placed.{Placed}
+use Rattle.graph_tables.specs.declared.answers.Placed.the-variants as Placed
+use Rattle.graph_tables.specs.declared.answers.Done.{Done}
+use Rattle.graph_tables.specs.declared.answers.Done.the-variants as Done
+use Rattle.graph_tables.specs.declared.answers.VarType.{VarType}
+use Rattle.graph_tables.specs.declared.answers.VarType.the-variants as VarType
 
 pub record Outcome (A : Type 0) : Type 0 where
   pub answer : A

@@ -1,4 +1,3 @@
-pub mod Checks
 pub mod Building
 pub mod Chains
 pub mod Running

@@ -17,8 +17,8 @@ use Rattle.graph_tables.specs.declared.refusals.Refusal.the-variants as R
 use Rattle.graph_tables.specs.Words.{variableCount, clockCount, locationCount, actionCount, processCount, kindAt, valueAt, placeAt, actionKind, epsilon}
 use Rattle.graph_tables.specs.Formed.{wellFormed}
 use Rattle.graph_steps.specs.Steps.{readyOf, clocksAfter, effectedOf, placedBelow, postKnown, clockFits, shiftedBelow, placeHolds}
-use Rattle.program_graph.specs.declared.answers.Done.{Done}
-use Rattle.program_graph.specs.declared.answers.Done.the-variants as Done
+use Rattle.graph_tables.specs.declared.answers.Done.{Done}
+use Rattle.graph_tables.specs.declared.answers.Done.the-variants as Done
 use Rattle.program_graph.specs.declared.run.ProgramGraphRun.{ProgramGraphRun}
 use Rattle.program_graph.specs.declared.run.Stepped.{Stepped}
 use Rattle.program_graph.specs.declared.run.Held.{Held}

@@ -1,14 +1,14 @@
 // Building one graph on a lent table. A refusal leaves every word as it was.
-use crate::answers::Done;
-use crate::answers::Placed;
-use crate::answers::VarType;
-use crate::checks;
 use grammar::bits;
 use grammar::values::Type;
 use grammar::values::Val;
-use graph_edits::actions;
-use graph_edits::locations;
-use graph_edits::transitions;
+use graph_checks::checks;
+use graph_edits::inner::actions;
+use graph_edits::inner::locations;
+use graph_edits::inner::transitions;
+use graph_tables::answers::Done;
+use graph_tables::answers::Placed;
+use graph_tables::answers::VarType;
 use graph_tables::formed;
 use graph_tables::handed::Limits;
 use graph_tables::handed::Vars;

@@ -1,6 +1,8 @@
 // Steps the graph of the rules' whole case, and graphs that try the marked examples, and writes each answer.
 use grammar::items;
 use grammar::values::Val;
+use graph_tables::answers::Done;
+use graph_tables::answers::Placed;
 use graph_tables::handed::Limit;
 use graph_tables::handed::Limits;
 use graph_tables::ids::Action;
@@ -8,8 +10,6 @@ use graph_tables::ids::Clock;
 use graph_tables::ids::Location;
 use graph_tables::ids::Var;
 use libc::STDOUT_FILENO;
-use program_graph::answers::Done;
-use program_graph::answers::Placed;
 use program_graph::builder;
 use program_graph::run::Held;
 use program_graph::run::ProgramGraphRun;

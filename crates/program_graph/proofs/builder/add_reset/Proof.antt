@@ -5,7 +5,7 @@ use native.Mathlib.Omega.{arith}
 use borrow.Author.Needs.{needs}
 use Rattle.program_graph.specs.Building.{addResetOf}
 use Rattle.program_graph.proofs.BuildingLaws.{parts, words-of, counted-of, done-refused, done-accepted}
-use Rattle.program_graph.proofs.ReadyActions.{reset-ready}
+use Rattle.graph_checks.proofs.ReadyActions.{reset-ready}
 use Rattle.program_graph.proofs.builder.add_reset.Statement.{statement}
 use Rattle.program_graph.proofs.builder.add_reset.Tie as tie
 

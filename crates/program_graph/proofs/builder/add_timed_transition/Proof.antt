@@ -10,7 +10,7 @@ use mathlib.Core.List.{[]}
 use Rattle.graph_edits.specs.Edits.{withTransition, keyWith}
 use Rattle.program_graph.specs.Building.{guardOf, addTransitionOf}
 use Rattle.program_graph.proofs.BuildingLaws.{parts, words-of, counted-of, done-refused, done-accepted}
-use Rattle.program_graph.proofs.ReadyParts.{transition-ready}
+use Rattle.graph_checks.proofs.ReadyParts.{transition-ready}
 use Rattle.program_graph.proofs.builder.add_timed_transition.Statement.{statement}
 use Rattle.program_graph.proofs.builder.add_timed_transition.Tie as tie
 

@@ -1,7 +1,7 @@
 use mathlib.Core.Path.{ap, _∙_}
 use borrow.Author.Needs.{needs}
 use Rattle.graph_tables.specs.declared.handed.Limits.{Limits}
-use Rattle.program_graph.specs.declared.answers.Done.{Done}
+use Rattle.graph_tables.specs.declared.answers.Done.{Done}
 use Rattle.program_graph.specs.Building.{Outcome, addTransitionOf}
 use Rattle.program_graph.proofs.builder.add_transition.Statement.{statement}
 use Rattle.program_graph.proofs.builder.add_transition.Tie as tie

@@ -12,7 +12,7 @@ use Rattle.graph_tables.specs.Words.{locationCount, processCount}
 use Rattle.graph_edits.specs.Edits.{withProcess, withLocation}
 use Rattle.program_graph.specs.Building.{newInitialOf}
 use Rattle.program_graph.proofs.BuildingLaws.{parts, words-of, placed-refused, placed-accepted}
-use Rattle.program_graph.proofs.ReadyParts.{initial-ready}
+use Rattle.graph_checks.proofs.ReadyParts.{initial-ready}
 use Rattle.program_graph.proofs.builder.new_initial_timed_location.Statement.{statement}
 use Rattle.program_graph.proofs.builder.new_initial_timed_location.Tie as tie
 

@@ -5,7 +5,7 @@ use native.Mathlib.Omega.{arith}
 use borrow.Author.Needs.{needs}
 use Rattle.program_graph.specs.Building.{newSendOf}
 use Rattle.program_graph.proofs.BuildingLaws.{parts, words-of, placed-refused, placed-accepted}
-use Rattle.program_graph.proofs.ReadyActions.{send-ready}
+use Rattle.graph_checks.proofs.ReadyActions.{send-ready}
 use Rattle.program_graph.proofs.builder.new_send.Statement.{statement}
 use Rattle.program_graph.proofs.builder.new_send.Tie as tie
 

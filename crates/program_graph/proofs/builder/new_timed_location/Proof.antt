@@ -5,7 +5,7 @@ use native.Mathlib.Omega.{arith}
 use borrow.Author.Needs.{needs}
 use Rattle.program_graph.specs.Building.{newTimedLocationOf}
 use Rattle.program_graph.proofs.BuildingLaws.{parts, words-of, placed-refused, placed-accepted}
-use Rattle.program_graph.proofs.ReadyParts.{location-ready}
+use Rattle.graph_checks.proofs.ReadyParts.{location-ready}
 use Rattle.program_graph.proofs.builder.new_timed_location.Statement.{statement}
 use Rattle.program_graph.proofs.builder.new_timed_location.Tie as tie
 

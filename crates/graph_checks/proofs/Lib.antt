@@ -1,0 +1,4 @@
+pub mod CheckLaws
+pub mod TypedLaws
+pub mod ReadyActions
+pub mod ReadyParts

@@ -1,0 +1,2 @@
+// What each building call asks before anything is written.
+pub mod checks;

@@ -1,0 +1,49 @@
+use Prim.Native.Nat.{_-_, _≤_}
+use mathlib.Core.Path.{_≡_, _∙_}
+use native.Mathlib.Omega.{arith}
+use native.Mathlib.Numerals.{add-one}
+use lib.ListN.{length, length-set}
+use borrow.Author.Needs.{needs}
+use Rattle.graph_edits.specs.Edits.{withTargets}
+use Rattle.graph_edits.proofs.inner.actions.put_targets.Statement.{statement}
+use Rattle.graph_edits.proofs.inner.actions.put_targets.Tie as tie
+
+abbrev Inv-loop : tie.InvT-loop
+Inv-loop t₀ a handed e₀ e-end t e = (e ≤ handed .count) × ((length t ≡ length t₀) × (t ≡ withTargets t₀ a handed e))
+
+abbrev μ-loop : tie.MeasureT-loop
+μ-loop t₀ a handed e₀ e-end t e = e-end - e
+
+loop-holds : tie.Need-loop-holds Inv-loop μ-loop
+unfolding withTargets
+loop-holds c = search needs
+
+loop-again : tie.Need-loop-again Inv-loop μ-loop
+unfolding withTargets
+loop-again c = (omega arith, (simp length-set (omega arith), rw add-one (cc)))
+
+returns : tie.Need-returns Inv-loop μ-loop
+returns c =
+    let e : c .before .loop .e ≡ c .before .before .args .t3 .count = omega arith in
+    c .before .loop .inv .1 .1 ∙ rw e
+
+pub put-targets-spec : {M : Type 1} → statement M
+put-targets-spec =
+    tie.close
+    (tie.spec
+    Inv-loop
+    μ-loop
+    loop-holds
+    (λ c. search needs)
+    (λ c. search needs)
+    (λ c. search needs)
+    (λ c. search needs)
+    (λ c. search needs)
+    (λ c. search needs)
+    (λ c. search needs)
+    (λ c. search needs)
+    (λ c. search needs)
+    (λ c. search needs)
+    loop-again
+    (λ c. search needs)
+    returns)

@@ -1,0 +1,19 @@
+use borrow.Author.Needs.{needs}
+use Rattle.graph_edits.proofs.inner.locations.put_process.Statement.{statement}
+use Rattle.graph_edits.proofs.inner.locations.put_process.Tie as tie
+
+returns : tie.Need-returns
+returns c = rw (c .process-count .ensures)
+
+pub put-process-spec : {M : Type 1} → statement M
+put-process-spec =
+    tie.close
+    (tie.spec
+    (λ c κs. search needs)
+    (λ c. search needs)
+    (λ c. search needs)
+    (λ c. search needs)
+    (λ c. search needs)
+    (λ c. search needs)
+    (λ c. search needs)
+    returns)

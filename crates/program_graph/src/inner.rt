@@ -1,0 +1,5 @@
+// For the crates above: each function asks for a table that is sound and a run that fits it.
+pub mod fits;
+pub mod fresh;
+pub mod steps;
+pub mod waits;

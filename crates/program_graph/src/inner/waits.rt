@@ -1,0 +1,58 @@
+// A wait of a run on a table that it fits.
+use crate::inner::steps;
+use crate::run::ProgramGraphRun;
+use crate::run::Stepped;
+use graph_steps::inner::waits;
+use graph_tables::refusals::Refusal;
+ghost use mathlib.Core.Path.{_≡_};
+ghost use mathlib.Core.Bool.{true};
+ghost use Rattle.laws.specs.Below.{_and_, allBelow};
+ghost use Rattle.graph_tables.specs.Sound.{Sound};
+ghost use Rattle.graph_steps.specs.Steps.{placeHolds};
+ghost use Rattle.program_graph.specs.Running.{runFormed, waitFits, waitHolds, waitedOf};
+
+fn wait_holds(run: ProgramGraphRun, t: &[u64], clocks: [u32; 8]) -> bool
+    requires { ⌜ Sound (now t) × (runFormed (now t) run ≡ true) ⌝ }
+    ensures { λ r. ⌜ r ≡ allBelow (run .processes) (placeHolds (now (t .entry)) (run .places) clocks) ⌝ }
+{
+    let places = run.places;
+    waits::places_hold(t, places, run.processes, clocks)
+}
+
+// A wait on a table and a run that are known to fit.
+pub fn wait_on(run: ProgramGraphRun, t: &[u64], delta: u32) -> Stepped
+    requires { ⌜ Sound (now t) × (runFormed (now t) run ≡ true) ⌝ }
+    ensures { λ r. ⌜ r ≡ waitedOf (now (t .entry)) run delta ⌝ }
+{
+    let before = run.clocks;
+    let n = run.timers;
+    if !waits::clocks_fit(before, n, delta) {
+        return steps::refused(run, Refusal::Overflow);
+    }
+    let clocks = waits::shifted(before, n, delta);
+    if !wait_holds(run, t, clocks) {
+        return steps::refused(run, Refusal::Invariant);
+    }
+    let places = run.places;
+    let vars = run.vars;
+    steps::accepted(ProgramGraphRun {
+        places,
+        vars,
+        clocks,
+        processes: run.processes,
+        variables: run.variables,
+        timers: n,
+    })
+}
+
+pub fn can_wait_on(run: ProgramGraphRun, t: &[u64], delta: u32) -> bool
+    requires { ⌜ Sound (now t) × (runFormed (now t) run ≡ true) ⌝ }
+    ensures { λ r. ⌜ r ≡ (waitFits run delta and waitHolds (now (t .entry)) run delta) ⌝ }
+{
+    let before = run.clocks;
+    let n = run.timers;
+    if !waits::clocks_fit(before, n, delta) {
+        return false;
+    }
+    wait_holds(run, t, waits::shifted(before, n, delta))
+}
