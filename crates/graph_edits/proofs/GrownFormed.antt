@@ -11,7 +11,8 @@ use lib.Dec.{eqb, ltb}
 use lib.ListN.{getD}
 use Rattle.laws.proofs.BelowLaws.{and-first, and-rest}
 use Rattle.graph_tables.specs.Words.{Words, variableCount, clockCount, locationCount, actionCount, processCount, transitionCount, valueAt, placeAt, invariantCount, keyOf}
-use Rattle.graph_tables.specs.Formed.{Counted, variableFormed, locationFormed, processFormed, actionFormed, keyBefore, transitionFormed}
+use Rattle.graph_tables.specs.Formed.{variableFormed, locationFormed, processFormed, actionFormed, keyBefore, transitionFormed}
+use Rattle.graph_tables.specs.Sound.{Counted}
 use Rattle.graph_tables.proofs.FormedLaws.{few-limits}
 use Rattle.graph_tables.proofs.KeptLaws.{Formed, Grown, Moved, GroupMoved, ItemsKept, variable-kept, location-kept, process-kept, action-kept, transition-kept}
 

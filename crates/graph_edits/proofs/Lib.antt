@@ -11,6 +11,6 @@ pub mod TransitionFormed
 pub mod ExpressionLaws
 pub mod ActionLaws
 pub mod EffectFormed
-pub mod MessageFormed
+pub mod ActionFormed
 pub mod ListLaws
 pub mod PartsKept

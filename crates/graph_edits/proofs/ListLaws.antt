@@ -22,7 +22,7 @@ use Rattle.graph_edits.proofs.LimitLaws.{Put, bound-back, next}
 use Rattle.graph_edits.proofs.ResetFormed.{before as reset-before, count as reset-count, here as reset-here, above as reset-above}
 use Rattle.graph_edits.proofs.EffectFormed.{row as effect-row, items as effect-other, all-words as effect-words, count as effect-count, variable as effect-var, same-items as effect-items}
 use Rattle.graph_edits.proofs.ExpressionLaws.{apart-row, Message, Short, message, targets-words, targets-other, targets-var}
-use Rattle.graph_edits.proofs.MessageFormed.{put-other as action-other, put-words as action-words, put-row as action-row}
+use Rattle.graph_edits.proofs.ActionFormed.{put-other as action-other, put-words as action-words, put-row as action-row}
 use Rattle.graph_edits.proofs.TransitionFormed.{opened-words, rowed-words, put-words, put-count, limits as put-others, put-same, put-key, put-limits, put-items, row-moved, limits-moved, items-moved as guards-moved}
 use Rattle.graph_edits.proofs.LocationFormed.{put-group as location-group, put-number as location-number}
 

@@ -1,5 +1,5 @@
--- A table that is well formed stays so with a clock, a process, a variable or a plain action more.
-use Prim.Native.Nat.{ℕ, _+_, _*_, _<_}
+-- A table that is well formed stays so with a clock, a process or a variable more.
+use Prim.Native.Nat.{ℕ, _+_, _<_}
 use mathlib.Core.Path.{_≡_, refl, _∙_}
 use mathlib.Core.Bool.{true, cond}
 use mathlib.Core.List.{List}
@@ -9,13 +9,13 @@ use lib.Dec.{eqb, ltb}
 use lib.ListN.{set, length-set}
 use lib.Seq.{getD-set-same, getD-set-other}
 use Rattle.laws.specs.Below.{_and_, allBelow}
-use Rattle.laws.proofs.BelowLaws.{and-both, all-none, all-kept, sum-none}
-use Rattle.graph_tables.specs.Words.{Words, variableCount, clockCount, locationCount, actionCount, processCount, invariantCount, placeAt, kindAt, valueAt, actionKind, resetCount, effectCount}
-use Rattle.graph_tables.specs.Formed.{variableFormed, zeroInside, processFormed, resetsFormed, plainFormed, actionFormed}
+use Rattle.laws.proofs.BelowLaws.{and-both, all-kept}
+use Rattle.graph_tables.specs.Words.{Words, variableCount, clockCount, locationCount, processCount, invariantCount, placeAt, kindAt, valueAt}
+use Rattle.graph_tables.specs.Formed.{variableFormed, zeroInside, processFormed}
 use Rattle.graph_tables.proofs.KeptLaws.{Formed, zero-kept}
-use Rattle.graph_edits.specs.Edits.{withVar, withClock, withProcess, withAction}
+use Rattle.graph_edits.specs.Edits.{withVar, withClock, withProcess}
 use Rattle.graph_edits.proofs.GrownFormed.{LocationStands, few-invariants}
-use Rattle.graph_edits.proofs.SpareFormed.{Spare, Agrees, spare-kind, spare-value, spare-place, spare-action, set-agrees, locations-agree, agrees-formed, raised-formed}
+use Rattle.graph_edits.proofs.SpareFormed.{Agrees, spare-kind, spare-value, spare-place, set-agrees, locations-agree, agrees-formed, raised-formed}
 
 pub clock-formed : (t : List ℕ) → Formed t → clockCount t < 8 → Formed (withClock t)
 clock-formed t formed room =
@@ -80,50 +80,3 @@ var-formed t kind value formed room fits =
 
     value-at : valueAt u n ≡ value
     value-at = getD-set-same (set t (6 + n) kind) (22 + n) value 0 (simp length-set (omega arith))
-
--- ---- an action
--- its first words
-abbrev actionRow : List ℕ → ℕ → ℕ → List ℕ
-actionRow t kind count = set (set (set t (74 + 51 * actionCount t) kind) (75 + 51 * actionCount t) 0) (76 + 51 * actionCount t) count
-
-module _ (t : List ℕ) (kind count : ℕ) (formed : Formed t) (room : actionCount t < 32) where
-  abbrev n : ℕ
-  n = actionCount t
-
-  abbrev u : List ℕ
-  u = actionRow t kind count
-
-  row-kind : actionKind u n ≡ kind
-  row-kind =
-      getD-set-other (set (set t (74 + 51 * n) kind) (75 + 51 * n) 0) (76 + 51 * n) (74 + 51 * n) count 0 (λ e. omega arith)
-      ∙ getD-set-other (set t (74 + 51 * n) kind) (75 + 51 * n) (74 + 51 * n) 0 0 (λ e. omega arith)
-      ∙ getD-set-same t (74 + 51 * n) kind 0 (omega arith)
-
-  row-resets : resetCount u n ≡ 0
-  row-resets =
-      getD-set-other (set (set t (74 + 51 * n) kind) (75 + 51 * n) 0) (76 + 51 * n) (75 + 51 * n) count 0 (λ e. omega arith)
-      ∙ getD-set-same (set t (74 + 51 * n) kind) (75 + 51 * n) 0 0 (simp length-set (omega arith))
-
-  row-effects : effectCount u n ≡ count
-  row-effects = getD-set-same (set (set t (74 + 51 * n) kind) (75 + 51 * n) 0) (76 + 51 * n) count 0 (simp length-set (omega arith))
-
-  spare-word : (i j : ℕ) → i < 51 → j ≡ 74 + 51 * n + i → Spare t j
-  spare-word i j l e = rw e (spare-action t (formed .counts) room i l)
-
-  row-agrees : Agrees t u
-  row-agrees =
-      set-agrees t (set (set t (74 + 51 * n) kind) (75 + 51 * n) 0) (76 + 51 * n) count (spare-word 2 _ (omega arith) (omega arith))
-      (set-agrees t (set t (74 + 51 * n) kind) (75 + 51 * n) 0 (spare-word 1 _ (omega arith) (omega arith))
-      (set-agrees t t (74 + 51 * n) kind (spare-word 0 _ (omega arith) (omega arith)) (λ j used. refl)))
-
-  row-formed : actionFormed u n ≡ true → Formed (withAction t kind count)
-  row-formed action =
-      raised-formed u 3 n (agrees-formed t u formed (simp length-set (formed .words)) row-agrees) (omega arith) (row-agrees 3 (λ s. omega arith)) (omega arith)
-      (λ e. absurd (omega arith)) (λ e. absurd (omega arith)) (λ e. action) (λ e. absurd (omega arith))
-
-pub action-formed : (t : List ℕ) → Formed t → actionCount t < 32 → Formed (withAction t 0 0)
-unfolding actionFormed plainFormed resetsFormed
-action-formed t formed room =
-    row-formed t 0 0 formed room
-    (rw (row-kind t 0 0 formed room, row-resets t 0 0 formed room, row-effects t 0 0 formed room)
-    (and-both (and-both refl (all-none _)) (and-both refl (and-both (all-none _) (rw sum-none)))))

@@ -10,7 +10,8 @@ use lib.Dec.{eqb}
 use lib.ListN.{getD, set, length-set}
 use lib.Seq.{getD-set-same, getD-set-other}
 use Rattle.graph_tables.specs.Words.{Words, variableCount, clockCount, locationCount, actionCount, processCount, transitionCount}
-use Rattle.graph_tables.specs.Formed.{Counted, variableFormed, locationFormed, processFormed, actionFormed}
+use Rattle.graph_tables.specs.Formed.{variableFormed, locationFormed, processFormed, actionFormed}
+use Rattle.graph_tables.specs.Sound.{Counted}
 use Rattle.graph_tables.proofs.KeptLaws.{Formed, Grown, variable-kept, location-kept, action-kept}
 use Rattle.graph_edits.proofs.GrownFormed.{LocationStands, Stands, both-sides, action-stands, transitions-stand, process-stands, grown-formed}
 

@@ -9,7 +9,8 @@ use lib.Dec.{eqb, ltb}
 use Rattle.laws.specs.Below.{_and_, allBelow}
 use Rattle.laws.proofs.BelowLaws.{and-first, and-rest, all-at}
 use Rattle.graph_tables.specs.Words.{invariantCount, effectLength}
-use Rattle.graph_tables.specs.Formed.{Counted, BoundsFit, countsFormed, boundFormed, limitFormed, limitsFormed, locationFormed, effectFormed, expressionFormed}
+use Rattle.graph_tables.specs.Formed.{countsFormed, boundFormed, limitFormed, limitsFormed, locationFormed, effectFormed, expressionFormed}
+use Rattle.graph_tables.specs.Sound.{Counted, BoundsFit}
 
 -- the time of a bound fits
 pub bound-fits : (w : ℕ) → boundFormed w ≡ true → w / 4 < 4294967296

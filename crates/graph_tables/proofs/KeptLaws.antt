@@ -17,7 +17,8 @@ use Rattle.grammar.specs.declared.values.«Type».{«Type» as Kind}
 use Rattle.grammar.specs.declared.typing.Typed.{Typed}
 use Rattle.grammar.specs.declared.typing.Typed.the-variants.{Known, IllTyped, TableFull, TooDeep}
 use Rattle.graph_tables.specs.Words.{Words, variableCount, clockCount, locationCount, actionCount, processCount, transitionCount, kindAt, kindsOf, valueAt, placeAt, invariantCount, actionKind, resetCount, effectCount, resetAt, effectVar, effectLength, keyOf, guardLength, limitCount, preOf, actionOf, postOf, clockOf, lowerOf, upperOf, guardItems, effectItems, epsilon}
-use Rattle.graph_tables.specs.Formed.{Counted, countsFormed, variableFormed, clockBefore, limitFormed, limitsFormed, locationFormed, zeroInside, processFormed, resetBefore, resetFormed, resetsFormed, isTyped, typedAs, effectFormed, effectDraws, plainFormed, expressionFormed, sendFormed, targetFormed, receiveFormed, actionFormed, actionKnown, keyFormed, keyBefore, guardFormed, transitionFormed, partsFormed, startedOf, wellFormed}
+use Rattle.graph_tables.specs.Formed.{countsFormed, variableFormed, clockBefore, limitFormed, limitsFormed, locationFormed, zeroInside, processFormed, resetBefore, resetFormed, resetsFormed, isTyped, typedAs, effectFormed, effectDraws, plainFormed, expressionFormed, sendFormed, targetFormed, receiveFormed, actionFormed, actionKnown, keyFormed, keyBefore, guardFormed, transitionFormed, partsFormed, startedOf, wellFormed}
+use Rattle.graph_tables.specs.Sound.{Counted}
 use Rattle.graph_tables.proofs.FormedLaws.{few-limits, short-effects, short-expressions, counted}
 
 -- ---- a well-formed table, part by part

@@ -1,6 +1,6 @@
 -- A table is well formed: no count above its size, no number that names nothing, nothing that building would refuse or
 -- order otherwise. What stands in unused words is not looked at.
-use Prim.Native.Nat.{ℕ, zero, suc, _+_, _/_, _%_, _≤_, _<_}
+use Prim.Native.Nat.{ℕ, zero, suc, _+_, _/_, _%_}
 use mathlib.Core.Bool.{Bool, true, false, cond, _||_}
 use mathlib.Core.List.{List}
 use lib.Dec.{eqb, leb, ltb}
@@ -19,15 +19,6 @@ unfoldable pub countsFormed : List ℕ → Bool
 countsFormed t =
     leb (variableCount t) 16 and leb (clockCount t) 8 and leb (locationCount t) 32 and leb (actionCount t) 32 and
     leb (processCount t) 4 and leb (transitionCount t) 128
-
--- what the counts then say
-pub record Counted (t : List ℕ) : Type 0 where
-  pub variables : variableCount t ≤ 16
-  pub clocks : clockCount t ≤ 8
-  pub locations : locationCount t ≤ 32
-  pub actions : actionCount t ≤ 32
-  pub processes : processCount t ≤ 4
-  pub transitions : transitionCount t ≤ 128
 
 -- ---- variables: a boolean is 0 or 1, an integer has 32 bits
 unfoldable pub variableFormed : List ℕ → ℕ → Bool
@@ -52,10 +43,6 @@ limitsFormed t g n = leb n 8 and allBelow n (limitFormed t g)
 -- ---- locations
 unfoldable pub locationFormed : List ℕ → ℕ → Bool
 locationFormed t l = limitsFormed t (128 + l) (invariantCount t l)
-
--- the times of a limit's bounds fit
-abbrev pub BoundsFit : List ℕ → ℕ → ℕ → Type 0
-BoundsFit t g i = (lowerOf t g i / 4 < 4294967296) × (upperOf t g i / 4 < 4294967296)
 
 -- ---- processes: each at a location whose invariants contain time 0
 unfoldable pub zeroInside : List ℕ → ℕ → ℕ → Bool

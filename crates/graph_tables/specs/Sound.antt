@@ -1,5 +1,5 @@
 -- What a table that is well formed says of its parts, as facts. The inner functions require them.
-use Prim.Native.Nat.{ℕ, _+_, _≤_, _<_}
+use Prim.Native.Nat.{ℕ, _+_, _/_, _≤_, _<_}
 use mathlib.Core.Path.{_≡_}
 use mathlib.Core.Bool.{true}
 use mathlib.Core.List.{List}
@@ -11,8 +11,17 @@ use Rattle.grammar.specs.Typing.{typeOf}
 use Rattle.grammar.specs.declared.values.«Type».{«Type» as Kind}
 use Rattle.grammar.specs.declared.values.«Type».the-variants as Kind
 use Rattle.grammar.specs.declared.typing.Typed.the-variants.{Known}
-use Rattle.graph_tables.specs.Words.{Words, variableCount, clockCount, locationCount, actionCount, processCount, transitionCount, kindAt, kindsOf, valueAt, placeAt, invariantCount, actionKind, resetCount, effectCount, resetAt, effectVar, effectLength, keyOf, guardLength, limitCount, preOf, actionOf, postOf, clockOf, limitRange, guardItems, effectItems, epsilon}
-use Rattle.graph_tables.specs.Formed.{Counted, BoundsFit, effectDraws}
+use Rattle.graph_tables.specs.Words.{Words, variableCount, clockCount, locationCount, actionCount, processCount, transitionCount, kindAt, kindsOf, valueAt, placeAt, invariantCount, actionKind, resetCount, effectCount, resetAt, effectVar, effectLength, keyOf, guardLength, limitCount, preOf, actionOf, postOf, clockOf, lowerOf, upperOf, limitRange, guardItems, effectItems, epsilon}
+use Rattle.graph_tables.specs.Formed.{effectDraws}
+
+-- no count is above its size
+pub record Counted (t : List ℕ) : Type 0 where
+  pub variables : variableCount t ≤ 16
+  pub clocks : clockCount t ≤ 8
+  pub locations : locationCount t ≤ 32
+  pub actions : actionCount t ≤ 32
+  pub processes : processCount t ≤ 4
+  pub transitions : transitionCount t ≤ 128
 
 -- variable v
 pub record VariableSound (t : List ℕ) (v : ℕ) : Type 0 where
@@ -22,6 +31,10 @@ pub record VariableSound (t : List ℕ) (v : ℕ) : Type 0 where
   pub fits : valueAt t v < 4294967296
   -- a boolean is 0 or 1
   pub truth : kindAt t v ≡ 0 → valueAt t v < 2
+
+-- the times of a limit's bounds fit
+abbrev pub BoundsFit : List ℕ → ℕ → ℕ → Type 0
+BoundsFit t g i = (lowerOf t g i / 4 < 4294967296) × (upperOf t g i / 4 < 4294967296)
 
 -- the n limits of group g
 pub record LimitsSound (t : List ℕ) (g n : ℕ) : Type 0 where

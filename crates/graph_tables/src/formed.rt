@@ -10,7 +10,8 @@ ghost use mathlib.Core.Bool.{true};
 ghost use Prim.Native.Nat.{_≤_, _<_};
 ghost use Rattle.laws.specs.Below.{allBelow};
 ghost use Rattle.graph_tables.specs.Words.{Words, variableCount, locationCount};
-ghost use Rattle.graph_tables.specs.Formed.{Counted, countsFormed, variableFormed, boundFormed, clockBefore, limitFormed, limitsFormed, locationFormed, processFormed, resetBefore, resetFormed, resetsFormed, isTyped, typedAs, effectFormed, plainFormed, expressionFormed, sendFormed, targetFormed, receiveFormed, actionFormed, keyFormed, keyBefore, guardFormed, transitionFormed, partsFormed, startedOf, wellFormed};
+ghost use Rattle.graph_tables.specs.Formed.{countsFormed, variableFormed, boundFormed, clockBefore, limitFormed, limitsFormed, locationFormed, processFormed, resetBefore, resetFormed, resetsFormed, isTyped, typedAs, effectFormed, plainFormed, expressionFormed, sendFormed, targetFormed, receiveFormed, actionFormed, keyFormed, keyBefore, guardFormed, transitionFormed, partsFormed, startedOf, wellFormed};
+ghost use Rattle.graph_tables.specs.Sound.{Counted};
 
 fn counts_formed(t: &[u64]) -> bool
     requires { ⌜ Words (now t) ⌝ }

@@ -7,7 +7,8 @@ ghost use mathlib.Core.Path.{_≡_};
 ghost use Prim.Native.Nat.{ℕ, _/_, _≤_, _<_};
 ghost use lib.ListN.{length};
 ghost use Rattle.graph_tables.specs.Words.{Words, variableCount, clockCount, locationCount, actionCount, processCount, transitionCount, kindAt, kindsOf, valueAt, placeAt, invariantCount, actionKind, resetCount, effectCount, resetAt, effectVar, effectLength, keyOf, guardLength, limitCount, clockOf, lowerOf, upperOf, boundOf, limitRange, guardItems, effectItems};
-ghost use Rattle.graph_tables.specs.Formed.{BoundsFit, zeroInside, effectDraws, actionKnown};
+ghost use Rattle.graph_tables.specs.Formed.{zeroInside, effectDraws, actionKnown};
+ghost use Rattle.graph_tables.specs.Sound.{BoundsFit};
 ghost use Rattle.laws.specs.Below.{allBelow, sumBelow};
 
 pub fn variable_count(t: &[u64]) -> usize

@@ -1,61 +1,50 @@
 -- Each building call keeps a table well formed: the parts of the theorem.
 use Prim.Native.Nat.{ℕ, _+_, _*_, _/_, _<_, _≤_}
-use mathlib.Core.Path.{_≡_, refl, sym, subst}
+use mathlib.Core.Path.{_≡_, refl}
 use mathlib.Core.Bool.{Bool, true, false, cond, _||_}
 use mathlib.Core.List.{List}
 use native.Mathlib.Omega.{arith}
 use borrow.Author.Tests.{eqb-true, ltb-true, lt-ltb}
 use lib.Dec.{eqb, ltb}
 use lib.ListN.{length}
-use Rattle.laws.specs.Ladder.{unless}
-use Rattle.laws.specs.Below.{_and_, allBelow}
+use Rattle.laws.specs.Below.{_and_}
 use Rattle.laws.proofs.BelowLaws.{and-both}
 use Rattle.grammar.specs.Values.{kindOf, kindWord}
 use Rattle.grammar.specs.declared.values.Val.{Val}
 use Rattle.grammar.specs.declared.values.Val.the-variants.{Boolean, Integer}
-use Rattle.graph_tables.specs.declared.refusals.Refusal.the-variants.{BadState, TableFull, MissingLocation, Invariant}
 use Rattle.graph_tables.specs.declared.handed.Limits.{Limits}
 use Rattle.graph_tables.specs.declared.handed.Vars.{Vars}
-use Rattle.graph_tables.specs.Handed.{noLimits}
-use Rattle.graph_tables.specs.Words.{variableCount, clockCount, locationCount, actionCount, processCount, invariantCount, preOf, actionOf, postOf, epsilon}
-use Rattle.graph_tables.specs.Formed.{wellFormed, zeroInside, actionKnown, keyFormed}
+use Rattle.graph_tables.specs.Words.{variableCount, clockCount, locationCount, actionCount, preOf, actionOf, postOf, epsilon}
+use Rattle.graph_tables.specs.Formed.{wellFormed, actionKnown, keyFormed}
 use Rattle.graph_tables.proofs.KeptLaws.{Formed, apart, together}
-use Rattle.graph_edits.specs.Edits.{LimitsFit, withProcess, keyWith, clocksKnown}
-use Rattle.graph_edits.proofs.PartsFormed.{var-formed, clock-formed, action-formed, process-formed}
+use Rattle.graph_edits.specs.Edits.{LimitsFit, keyWith}
+use Rattle.graph_edits.proofs.PartsFormed.{var-formed, clock-formed, process-formed}
 use Rattle.graph_edits.proofs.ResetFormed.{reset-formed}
 use Rattle.graph_edits.proofs.LocationFormed.{location-formed, initial-formed}
 use Rattle.graph_edits.proofs.EffectFormed.{effect-formed}
-use Rattle.graph_edits.proofs.MessageFormed.{send-formed, receive-formed}
+use Rattle.graph_edits.proofs.ActionFormed.{action-formed, send-formed, receive-formed}
 use Rattle.graph_edits.proofs.TransitionFormed.{GuardFits, transition-formed}
+use Rattle.graph_tables.specs.declared.answers.Placed.{Placed}
 use Rattle.graph_tables.specs.declared.answers.Done.{Done}
-use Rattle.graph_tables.specs.declared.answers.Done.the-variants.{Accepted, Refused}
+use Rattle.graph_tables.specs.declared.answers.Done.the-variants.{Accepted}
 use Rattle.graph_checks.specs.Checks.{resetCheck, effectCheck, sendCheck, receiveCheck, locationCheck, initialCheck, transitionCheck}
-use Rattle.program_graph.specs.Building.{Outcome, refusedWith, placedAt, notDone, doneWith, doneIf, placedIf, payloadOf, newVarOf, newClockOf, newActionOf, newLocationOf, newProcessOf, addResetOf, addEffectOf, newSendOf, newReceiveOf, newTimedLocationOf, newInitialOf, guardOf, addTransitionOf}
+use Rattle.program_graph.specs.Building.{Outcome, onFormed, withRoom, doneIf, placedIf, payloadOf, newVarOf, newClockOf, newActionOf, newProcessOf, addResetOf, addEffectOf, newSendOf, newReceiveOf, newTimedLocationOf, newInitialOf, guardOf, addTransitionOf}
+use Rattle.program_graph.proofs.BuildingLaws.{done-if, placed-if, part-if, process-if}
 use Rattle.graph_checks.proofs.ReadyActions.{reset-ready, effect-ready, send-ready, receive-ready}
 use Rattle.graph_checks.proofs.ReadyParts.{location-ready, initial-ready, GuardReady, transition-ready}
 
 abbrev WellFormed : List ℕ → Type 0
 WellFormed t = wellFormed t true ≡ true
 
--- ---- ladders: a rung that refuses leaves the table
-rung : {A : Type 0} (t : List ℕ) (b : Bool) (refused rest : Outcome A) → refused .table ≡ t → WellFormed t → (b ≡ true → WellFormed (rest .table)) → WellFormed (unless b refused rest .table)
-unfolding unless
-rung t true refused rest e h k = k refl
-rung t false refused rest e h k = subst WellFormed (sym e) h
-
+-- ---- a refusal leaves the table; what is accepted is well formed
 done-keeps : (c : Done) (t u : List ℕ) → WellFormed t → (c ≡ Accepted → Formed u) → WellFormed (doneIf c t u .table)
-done-keeps Accepted t u h k = together u (k refl)
-done-keeps (Refused r) t u h k = h
+done-keeps c t u h k = done-if (λ (o : Outcome Done). WellFormed (o .table)) c t u (λ r. h) (λ e. together u (k e))
 
 placed-keeps : (c : Done) (t : List ℕ) (n : ℕ) (u : List ℕ) → WellFormed t → (c ≡ Accepted → Formed u) → WellFormed (placedIf c t n u .table)
-placed-keeps Accepted t n u h k = together u (k refl)
-placed-keeps (Refused r) t n u h k = h
+placed-keeps c t n u h k = placed-if (λ (o : Outcome Placed). WellFormed (o .table)) c t n u (λ r. h) (λ e. together u (k e))
 
--- a part more, where there is room for it
-part-keeps : (t : List ℕ) (n size : ℕ) (u : List ℕ) → WellFormed t → (n < size → Formed u)
-    → WellFormed (unless (wellFormed t true) (refusedWith BadState t) (unless (ltb n size) (refusedWith TableFull t) (placedAt n u)) .table)
-part-keeps t n size u h k =
-    rung t (wellFormed t true) _ _ refl h (λ e. rung t (ltb n size) (refusedWith TableFull t) (placedAt n u) refl h (λ l. together u (k (ltb-true n size l))))
+part-keeps : (t : List ℕ) (n size : ℕ) (u : List ℕ) → WellFormed t → (n < size → Formed u) → WellFormed (onFormed t (withRoom n size t u) .table)
+part-keeps t n size u h k = part-if (λ (o : Outcome Placed). WellFormed (o .table)) t n size u (λ r. h) (λ l. together u (k l))
 
 -- a value's kind and bits
 val-formed : (v : Val) → payloadOf v < 4294967296
@@ -78,13 +67,9 @@ module _ (t : List ℕ) (h : WellFormed t) where
   action-keeps = part-keeps t (actionCount t) 32 _ h (λ room. action-formed t (apart t true h) room)
 
   pub process-keeps : (l : ℕ) → WellFormed (newProcessOf t l .table)
-  unfolding newProcessOf
   process-keeps l =
-      rung t (wellFormed t true) (notDone BadState t) _ refl h (λ e.
-      rung t (ltb l (locationCount t)) (notDone MissingLocation t) _ refl h (λ known.
-      rung t (allBelow (invariantCount t l) (zeroInside t (128 + l))) (notDone Invariant t) _ refl h (λ inside.
-      rung t (ltb (processCount t) 4) (notDone TableFull t) (doneWith (withProcess t l)) refl h (λ room.
-      together _ (process-formed t l (apart t true h) (ltb-true _ _ room) (ltb-true _ _ known) inside)))))
+      process-if (λ (o : Outcome Done). WellFormed (o .table)) t l (λ r. h) (λ known inside room.
+      together _ (process-formed t l (apart t true h) room known inside))
 
   pub reset-keeps : (a clock : ℕ) → WellFormed (addResetOf t a clock .table)
   unfolding addResetOf
@@ -127,17 +112,6 @@ module _ (t : List ℕ) (h : WellFormed t) where
       placed-keeps (initialCheck t l) t _ _ h (λ e.
       let r = initial-ready t l e in
       initial-formed t l (apart t true h) (r .location .room) (r .location .limits .0) (r .location .limits .1) fit (r .room) (r .inside))
-
--- an empty list of limits is of known clocks
-none-known : (t : List ℕ) → clocksKnown t noLimits ≡ true
-unfolding clocksKnown allBelow
-none-known t = refl
-
-pub location-keeps : (t : List ℕ) → WellFormed t → WellFormed (newLocationOf t .table)
-unfolding newLocationOf
-location-keeps t h =
-    part-keeps t (locationCount t) 32 _ h (λ room.
-    location-formed t noLimits (apart t true h) room (omega arith) (none-known t) (λ i l. absurd (omega arith)))
 
 -- ---- transitions: a key has its parts
 known-small : (t : List ℕ) (a : ℕ) → actionCount t ≤ 32 → actionKnown t a ≡ true → a < 4294967296

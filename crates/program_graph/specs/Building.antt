@@ -15,7 +15,6 @@ use Rattle.graph_tables.specs.declared.refusals.Refusal.{Refusal}
 use Rattle.graph_tables.specs.declared.refusals.Refusal.the-variants.{BadState, TableFull, MissingVar, MissingLocation, Invariant, NoProcess}
 use Rattle.graph_tables.specs.declared.handed.Limits.{Limits}
 use Rattle.graph_tables.specs.declared.handed.Vars.{Vars}
-use Rattle.graph_tables.specs.Handed.{noLimits}
 use Rattle.graph_tables.specs.Words.{variableCount, clockCount, locationCount, actionCount, processCount, kindAt, invariantCount}
 use Rattle.graph_tables.specs.Formed.{wellFormed, zeroInside}
 use Rattle.graph_edits.specs.Edits.{withVar, withClock, withAction, withProcess, withLocation, withReset, withEffect, withSend, withReceive, withTransition, keyWith}
@@ -79,9 +78,6 @@ newClockOf t = onFormed t (withRoom (clockCount t) 8 t (withClock t))
 unfoldable pub newActionOf : List ℕ → Outcome Placed
 newActionOf t =
     onFormed t (withRoom (actionCount t) 32 t (withAction t 0 0))
-
-unfoldable pub newLocationOf : List ℕ → Outcome Placed
-newLocationOf t = onFormed t (withRoom (locationCount t) 32 t (withLocation t noLimits))
 
 -- Process: 3, then 9 if an invariant excludes time 0.
 unfoldable pub newProcessOf : List ℕ → ℕ → Outcome Done

@@ -7,14 +7,13 @@ use Rattle.graph_tables.specs.declared.handed.Limits.{Limits}
 use Rattle.graph_tables.specs.declared.handed.Vars.{Vars}
 use Rattle.graph_edits.specs.Edits.{LimitsFit}
 use Rattle.graph_edits.specs.Lists.{Grows, nothing, resets-of, effects-of, all-transitions}
-use Rattle.program_graph.specs.Building.{payloadOf, newVarOf, newClockOf, newActionOf, newLocationOf, newProcessOf, addResetOf, addEffectOf, newSendOf, newReceiveOf, newTimedLocationOf, newInitialOf, addTransitionOf}
+use Rattle.program_graph.specs.Building.{payloadOf, newVarOf, newClockOf, newActionOf, newProcessOf, addResetOf, addEffectOf, newSendOf, newReceiveOf, newTimedLocationOf, newInitialOf, addTransitionOf}
 
 -- a call, with what is handed to it
 pub data Call : Type 0 where
   new-var : Val → Call
   new-clock : Call
   new-action : Call
-  new-location : Call
   new-process : ℕ → Call
   add-reset : ℕ → ℕ → Call
   add-effect : ℕ → ℕ → List ℕ → Call
@@ -29,7 +28,6 @@ abbrev pub after : List ℕ → Call → List ℕ
 after t (new-var v) = newVarOf t v .table
 after t new-clock = newClockOf t .table
 after t new-action = newActionOf t .table
-after t new-location = newLocationOf t .table
 after t (new-process l) = newProcessOf t l .table
 after t (add-reset a clock) = addResetOf t a clock .table
 after t (add-effect a v ws) = addEffectOf t a v ws .table
@@ -44,7 +42,6 @@ abbrev pub grows : Call → Grows
 grows (new-var v) = nothing
 grows new-clock = nothing
 grows new-action = nothing
-grows new-location = nothing
 grows (new-process l) = nothing
 grows (add-reset a clock) = resets-of a
 grows (add-effect a v ws) = effects-of a
@@ -59,7 +56,6 @@ abbrev pub Fits : Call → Type 0
 Fits (new-var v) = payloadOf v < 4294967296
 Fits new-clock = Unit {0}
 Fits new-action = Unit {0}
-Fits new-location = Unit {0}
 Fits (new-process l) = Unit {0}
 Fits (add-reset a clock) = Unit {0}
 Fits (add-effect a v ws) = Unit {0}

@@ -23,7 +23,7 @@ ghost use mathlib.Core.Path.{_≡_};
 ghost use Rattle.graph_tables.specs.Words.{epsilon};
 ghost use Rattle.graph_tables.specs.Handed.{noLimits};
 ghost use Rattle.graph_edits.specs.Edits.{chosen};
-ghost use Rattle.program_graph.specs.Building.{payloadOf, emptyOf, newVarOf, varTypeOf, newClockOf, newActionOf, newLocationOf, newProcessOf, buildOf, addResetOf, addEffectOf, newSendOf, newReceiveOf, newTimedLocationOf, newInitialOf, addTransitionOf};
+ghost use Rattle.program_graph.specs.Building.{payloadOf, emptyOf, newVarOf, varTypeOf, newClockOf, newActionOf, newProcessOf, buildOf, addResetOf, addEffectOf, newSendOf, newReceiveOf, newTimedLocationOf, newInitialOf, addTransitionOf};
 
 // The value of a variable at the start, as 32 bits.
 fn payload(v: Val) -> u64
@@ -119,18 +119,9 @@ pub fn new_action(t: &mut [u64]) -> Placed
 
 // A location without invariants.
 pub fn new_location(t: &mut [u64]) -> Placed
-    ensures { λ r. ⌜ (r ≡ newLocationOf (now (t .entry)) .answer) × (now (t .exit) ≡ newLocationOf (now (t .entry)) .table) ⌝ }
+    ensures { λ r. ⌜ (r ≡ newTimedLocationOf (now (t .entry)) noLimits .answer) × (now (t .exit) ≡ newTimedLocationOf (now (t .entry)) noLimits .table) ⌝ }
 {
-    if !formed::well_formed(t, true) {
-        return Placed::Refused(Refusal::BadState);
-    }
-    let n = inner::location_count(t);
-    if sizes::LOCATIONS <= n {
-        return Placed::Refused(Refusal::TableFull);
-    }
-    t[42 + n] = 0;
-    t[2] = (n as u64) + 1;
-    Placed::At(n as u32)
+    new_timed_location(t, Limits::none())
 }
 
 // A process that starts at a location. One location may hold several.

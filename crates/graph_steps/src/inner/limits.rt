@@ -3,8 +3,7 @@ use graph_tables::inner;
 ghost use mathlib.Core.Path.{_≡_};
 ghost use Prim.Native.Nat.{_+_, _<_};
 ghost use Rattle.graph_tables.specs.Words.{Words, clockOf, locationCount};
-ghost use Rattle.graph_tables.specs.Formed.{BoundsFit};
-ghost use Rattle.graph_tables.specs.Sound.{Sound, LimitsSound};
+ghost use Rattle.graph_tables.specs.Sound.{BoundsFit, Sound, LimitsSound};
 ghost use Rattle.graph_steps.specs.Steps.{limitHolds, limitsHold, invariantsHold};
 
 // Limit i of a group holds.

@@ -1,4 +1,4 @@
--- A well-formed table with a send or a receive more is well formed.
+-- A well-formed table with an action more is well formed: a plain one, a send or a receive.
 use Prim.Native.Nat.{ℕ, _+_, _*_, _<_, _≤_}
 use mathlib.Core.Path.{_≡_, refl, sym, ap, subst, _∙_}
 use mathlib.Core.Logic.{_≢_}
@@ -9,15 +9,15 @@ use borrow.Author.Tests.{le-leb, lt-ltb}
 use lib.ListN.{length, getD, set, length-set}
 use lib.Seq.{getD-set-same, getD-set-other}
 use Rattle.laws.specs.Below.{sumBelow}
-use Rattle.laws.proofs.BelowLaws.{and-both, all-from, sum-same}
+use Rattle.laws.proofs.BelowLaws.{and-both, all-none, all-from, sum-none, sum-same}
 use Rattle.grammar.specs.Draws.{drawsOf}
 use Rattle.grammar.specs.Typing.{typeOf}
 use Rattle.graph_tables.specs.declared.handed.Vars.{Vars}
 use Rattle.graph_tables.specs.Handed.{handedVar}
 use Rattle.graph_tables.specs.Words.{Words, variableCount, actionCount, kindsOf, actionKind, resetCount, effectCount, effectVar, effectLength, effectItems}
-use Rattle.graph_tables.specs.Formed.{isTyped, effectDraws, expressionFormed, sendFormed, targetFormed, receiveFormed, actionFormed}
+use Rattle.graph_tables.specs.Formed.{isTyped, resetsFormed, effectDraws, plainFormed, expressionFormed, sendFormed, targetFormed, receiveFormed, actionFormed}
 use Rattle.graph_tables.proofs.KeptLaws.{Formed, Grown, ItemsKept, items-moved, is-typed-grown}
-use Rattle.graph_edits.specs.Edits.{withExpressions, withSend, withTargets, withReceive}
+use Rattle.graph_edits.specs.Edits.{withAction, withExpressions, withSend, withTargets, withReceive}
 use Rattle.graph_edits.proofs.ExpressionLaws.{apart-row, apart-item, Message, message, targets-words, targets-other, targets-var}
 use Rattle.graph_edits.proofs.GrownFormed.{Around, around-grown, around-formed}
 
@@ -78,6 +78,16 @@ module _ (x : List ℕ) (n kind count : ℕ) where
           row = λ j l three out. put-other j (three, λ q. out 2 (omega arith) (omega arith), λ q. out 1 (omega arith) (omega arith), λ q. out 0 (omega arith) (omega arith)) ∙ row j l out;
           items = λ b e l other k h. put-other (14122 + 64 * (32 * e + b) + k) (omega arith) ∙ items b e l other k h;
         }
+
+-- ---- a plain action, without resets and effects
+pub action-formed : (t : List ℕ) → Formed t → actionCount t < 32 → Formed (withAction t 0 0)
+unfolding actionFormed plainFormed resetsFormed
+action-formed t formed free =
+    let n = actionCount t in
+    let row = put-row t n 0 0 (formed .words) free in
+    around-formed t (put t n 0 0) n free formed
+    (put-around t n 0 0 (formed .words) free t refl (λ j l out. refl) (λ b e l other k h. refl))
+    (rw (row .0, row .1, row .2) (and-both (and-both refl (all-none _)) (and-both refl (and-both (all-none _) (rw sum-none)))))
 
 -- ---- a send
 module _ (t : List ℕ) (m : ℕ → List ℕ) (count : ℕ) (formed : Formed t) (free : actionCount t < 32) (few : count ≤ 4) (each : (i : ℕ) → i < count → (length (m i) ≤ 64) × (isTyped (typeOf (kindsOf t) (m i)) ≡ true)) where
