@@ -1,11 +1,17 @@
--- Laws of anyBelow, for loops that look for one number: none tested, one more, one that is found, all tested.
+-- Laws of anyBelow, for loops that look for one number: none tested, one more, one that is found, all tested; and which one there is.
 use Prim.Native.Nat.{ℕ, zero, suc, _+_, _<_, _≤_}
 use mathlib.Core.Path.{_≡_, refl, sym, ap, subst, _∙_}
 use mathlib.Core.Bool.{Bool, true, false, _||_, or-true}
-use mathlib.Core.Logic.{⊎-elim}
+use mathlib.Core.Logic.{_⊎_, inl, inr, ⊎-elim}
 use native.Mathlib.Nat.{le-of-suc-le-suc, not-suc-le-zero, eq-or-lt-of-le, le-antisymm}
 use native.Mathlib.Numerals.{add-one}
+use native.Mathlib.Omega.{arith}
 use Rattle.laws.specs.Below.{anyBelow}
+use Rattle.laws.proofs.Tests.{never}
+
+either : (a b : Bool) → (a || b) ≡ true → (a ≡ true) ⊎ (b ≡ true)
+either true b h = inl refl
+either false b h = inr h
 
 module _ (p : ℕ → Bool) where
   pub any-none : anyBelow 0 p ≡ false
@@ -27,3 +33,12 @@ module _ (p : ℕ → Bool) where
 
   pub any-done : (n i : ℕ) → i ≤ n → n ≤ i → anyBelow i p ≡ false → anyBelow n p ≡ false
   any-done n i l m h = subst (λ (k : ℕ). anyBelow k p ≡ false) (le-antisymm l m) h
+
+  pub any-some : (n : ℕ) → anyBelow n p ≡ true → (i : ℕ) × (i < n) × (p i ≡ true)
+  unfolding anyBelow
+  any-some zero h = never h
+  any-some (suc n) h =
+      ⊎-elim
+      (λ (e : anyBelow n p ≡ true). let r = any-some n e in (r .0, omega arith, r .2))
+      (λ (e : p n ≡ true). (n, omega arith, e))
+      (either (anyBelow n p) (p n) h)

@@ -1,6 +1,6 @@
--- Laws of stepping: tests from orders, and what stands where after resets, a wait, moves and effects.
+-- Laws of stepping: a store, tests from orders, and what stands where after resets, a wait, moves and effects.
 use Prim.Native.Nat.{ℕ, zero, suc, _+_, _<_, _≤_}
-use mathlib.Core.Path.{_≡_, refl, sym, _∙_}
+use mathlib.Core.Path.{_≡_, refl, sym, ap, _∙_}
 use mathlib.Core.Bool.{true, false}
 use mathlib.Core.List.{List, [], _∷_}
 use mathlib.Core.Logic.{⊎-elim}
@@ -18,6 +18,15 @@ use Rattle.grammar.specs.declared.evaluation.Evaluated.the-variants.{Known, NoV
 use Rattle.graph_tables.specs.Words.{locationCount, resetAt, effectVar, effectItems}
 use Rattle.graph_steps.specs.Steps.{postKnown, clockFits, resetBelow, shiftedBelow, placedBelow, assigned, effectsBelow}
 use Rattle.graph_steps.specs.declared.inner.effects.Effected.{Effected}
+
+-- ---- a store
+-- what holds of an element holds after a store, where it holds of what is stored there
+pub set-keeps : {A : Type 0} (P : A → Type 0) (d : A) (xs : List A) (i : ℕ) (x : A) (k : ℕ) → (i ≡ k → P x) → P (getD xs k d) → P (getD (set xs i x) k d)
+set-keeps P d [] i x k f h = h
+set-keeps P d (y ∷ ys) zero x zero f h = f refl
+set-keeps P d (y ∷ ys) zero x (suc k) f h = h
+set-keeps P d (y ∷ ys) (suc i) x zero f h = h
+set-keeps P d (y ∷ ys) (suc i) x (suc k) f h = set-keeps P d ys i x k (λ e. f (ap suc e)) h
 
 -- ---- the tests of posts and clocks, from the orders
 pub post-known : (t posts : List ℕ) (p : ℕ) → getD posts p 0 < locationCount t → postKnown t posts p ≡ true
@@ -42,14 +51,6 @@ unfolding clockFits
 fits-at clocks delta n i h l = leb-true _ _ (all-at _ n i h l)
 
 -- ---- resets
--- a clock that reads 0 does so after a reset of any clock
-zero-kept : (l : List ℕ) (i j : ℕ) → getD l j 0 ≡ 0 → getD (set l i 0) j 0 ≡ 0
-zero-kept [] i j h = h
-zero-kept (x ∷ xs) zero zero h = refl
-zero-kept (x ∷ xs) zero (suc j) h = h
-zero-kept (x ∷ xs) (suc i) zero h = h
-zero-kept (x ∷ xs) (suc i) (suc j) h = zero-kept xs i j h
-
 module _ (t : List ℕ) (a : ℕ) (clocks : List ℕ) where
   pub reset-length : (n : ℕ) → length (resetBelow t a clocks n) ≡ length clocks
   unfolding resetBelow
@@ -63,7 +64,7 @@ module _ (t : List ℕ) (a : ℕ) (clocks : List ℕ) where
   reset-at (suc n) i l h =
       ⊎-elim
       (λ (e : i ≡ n). rw (← e) (getD-set-same (resetBelow t a clocks i) (resetAt t a i) 0 0 (rw (reset-length i) h)))
-      (λ (m : i < n). zero-kept (resetBelow t a clocks n) (resetAt t a n) (resetAt t a i) (reset-at n i m h))
+      (λ (m : i < n). set-keeps (λ (x : ℕ). x ≡ 0) 0 (resetBelow t a clocks n) (resetAt t a n) 0 (resetAt t a i) (λ e. refl) (reset-at n i m h))
       (eq-or-lt-of-le (le-of-suc-le-suc l))
 
   -- any other clock is as before

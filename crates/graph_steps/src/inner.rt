@@ -2,4 +2,7 @@
 pub mod candidates;
 pub mod effects;
 pub mod limits;
+pub mod listing;
+pub mod messages;
+pub mod waiting;
 pub mod waits;

@@ -1,4 +1,5 @@
 // What calls answer: a number, a word, or a refusal.
+use crate::ids::Action;
 use crate::refusals::Refusal;
 use grammar::values::Type;
 
@@ -16,4 +17,11 @@ pub enum Done {
 pub enum VarType {
     Known(Type),
     Refused(Refusal),
+}
+
+// What a run may do next: an action, and where it takes a process.
+pub struct Entry {
+    pub action: Action,
+    pub process: usize,
+    pub post: u32,
 }

@@ -1,6 +1,7 @@
-// Lists that are handed to building calls, each with its count, which may be above what there is room for.
+// Lists that are handed to calls, each with its count, which may be above what there is room for.
 use crate::ids::Clock;
 use crate::ids::Var;
+use grammar::values::Slot;
 use time::Bound;
 use time::TimeRange;
 ghost use mathlib.Core.Path.{_≡_};
@@ -34,5 +35,11 @@ impl Limits {
 
 pub struct Vars {
     pub vars: [Var; 4],
+    pub count: usize,
+}
+
+// The values of a message.
+pub struct Message {
+    pub values: [Slot; 4],
     pub count: usize,
 }

@@ -1,8 +1,13 @@
 pub mod BuildingLaws
 pub mod KeepLaws
 pub mod Stored
+pub mod Answers
+pub mod SaidLaws
 pub mod RunLaws
+pub mod RunReady
 pub mod RunTheorems
 pub mod RunKept
+pub mod RunChains
 pub mod KeptCalls
 pub mod Theorems
+pub mod MarkedLaws

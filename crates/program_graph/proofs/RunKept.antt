@@ -1,4 +1,4 @@
--- A step and a wait keep a run one of its table's.
+-- Every call keeps a run one of its table's.
 use Prim.Native.Nat.{ℕ, zero, suc, _+_, _<_, _≤_}
 use mathlib.Core.Path.{_≡_, refl, sym, ap, subst, _∙_}
 use mathlib.Core.Bool.{Bool, true, false, cond}
@@ -13,6 +13,7 @@ use lib.Seq.{getD-take, getD-drop, getD-set-same, getD-set-other, length-take-le
 use borrow.Author.Tests.{eqb-true, eqb-false, eq-eqb, ltb-true, ltb-false, lt-ltb}
 use Rattle.laws.specs.Ladder.{unless}
 use Rattle.laws.specs.Below.{allBelow}
+use Rattle.laws.proofs.Ladder.{rung}
 use Rattle.laws.proofs.BelowLaws.{and-first, and-rest, and-both, all-at, all-from, all-kept}
 use Rattle.grammar.specs.Values.{kindOf, kindWord}
 use Rattle.grammar.specs.Typing.{kindedAt, variableKind}
@@ -34,23 +35,18 @@ use Rattle.graph_tables.specs.Sound.{Sound}
 use Rattle.graph_tables.proofs.SoundLaws.{sound}
 use Rattle.graph_steps.specs.Steps.{clocksAfter, assigned, effectsBelow, effectedOf, placedBelow, postKnown}
 use Rattle.graph_steps.specs.declared.inner.effects.Effected.{Effected}
-use Rattle.graph_steps.proofs.StepLaws.{reset-length, shifted-length, placed-length, placed-at, effects-length}
+use Rattle.graph_steps.proofs.StepLaws.{post-known, reset-length, shifted-length, placed-length, placed-at, effects-length}
+use Rattle.graph_steps.specs.Messages.{takenOf}
+use Rattle.graph_steps.proofs.MessageLaws.{taken-length, taken-fits}
+use Rattle.graph_tables.specs.declared.handed.Message.{Message}
+use Rattle.program_graph.specs.Facts.{Sized}
 use Rattle.program_graph.specs.declared.run.ProgramGraphRun.{ProgramGraphRun}
 use Rattle.program_graph.specs.declared.run.Stepped.{Stepped}
-use Rattle.program_graph.specs.Running.{refusedRun, acceptedRun, placeKnown, varFits, countsSame, runFormed, fitsTable, movedTo, idleOf, plainOf, actedOf, stepOf, transitionOf, waitFits, waitHolds, later, waitedOf, waitOf, startPlaces, startValue, startVars, freshRun, noRun, newRunOf}
-use Rattle.program_graph.proofs.RunLaws.{table-formed, fitting, same-variables, few-processes}
-
--- the arrays of a run have their sizes, as every run that is handed in has
-pub record Sized (run : ProgramGraphRun) : Type 0 where
-  pub places : length (run .places) ≡ 4
-  pub vars : length (run .vars) ≡ 16
-  pub clocks : length (run .clocks) ≡ 8
-
--- what a rung gives: the refusal, or where its test holds the rest
-rung : (P : Stepped → Type 0) (b : Bool) (r s : Stepped) → P r → (b ≡ true → P s) → P (unless b r s)
-unfolding unless
-rung P true r s h k = k refl
-rung P false r s h k = h
+use Rattle.program_graph.specs.declared.run.Sent.{Sent}
+use Rattle.program_graph.specs.Messaging.{refusedSend, saidOf, sentOf, sendOf, heardOf, receivedOf, receiveOf}
+use Rattle.program_graph.specs.Running.{refusedRun, acceptedRun, placeKnown, varFits, countsSame, runFormed, fitsTable, readyStill, movedTo, idleOf, plainOf, actedOf, stepOf, transitionOf, waitFits, waitHolds, later, waitedOf, waitOf, startPlaces, startValue, startVars, freshRun, noRun, newRunOf}
+use Rattle.program_graph.proofs.RunLaws.{table-formed, fitting, same-variables, few-processes, either-way}
+use Rattle.program_graph.proofs.RunReady.{ready-exactly}
 
 -- the variables of a run that is one of its table's fit the table
 vars-fit : (t : List ℕ) (run : ProgramGraphRun) → runFormed t run ≡ true → allBelow (variableCount t) (varFits t (run .vars)) ≡ true
@@ -149,13 +145,21 @@ wait-keeps t run delta h z =
 
 -- ---- a step
 -- one of the table's, its arrays of their sizes
-abbrev Kept : List ℕ → Stepped → Type 0
-Kept t s = (runFormed t (s .run) ≡ true) × Sized (s .run)
+abbrev Kept : List ℕ → ProgramGraphRun → Type 0
+Kept t run = (runFormed t run ≡ true) × Sized run
+
+-- a run that is kept fits the table that the run before did
+from-kept : (t : List ℕ) (run after : ProgramGraphRun) → fitsTable t run ≡ true → (Sound t → runFormed t run ≡ true → Kept t after)
+    → (fitsTable t after ≡ true) × Sized after
+unfolding fitsTable
+from-kept t run after f k =
+    let q = k (fitting t run f .0) (fitting t run f .1) in
+    (and-both (table-formed t run f) (q .0), q .1)
 
 -- a run whose processes moved to known posts, and whose variables fit
 moved-kept : (t : List ℕ) (run : ProgramGraphRun) (posts : List ℕ) (vars : List Slot) (clocks : List ℕ) → Sound t → runFormed t run ≡ true → Sized run
     → allBelow (length posts) (postKnown t posts) ≡ true → length posts ≡ run .processes
-    → allBelow (variableCount t) (varFits t vars) ≡ true → length vars ≡ 16 → length clocks ≡ 8 → Kept t (acceptedRun (movedTo run posts vars clocks))
+    → allBelow (variableCount t) (varFits t vars) ≡ true → length vars ≡ 16 → length clocks ≡ 8 → Kept t (movedTo run posts vars clocks)
 unfolding runFormed countsSame placeKnown postKnown
 moved-kept t run posts vars clocks s h z known e v vz cz =
     let n : ℕ = run .processes in
@@ -169,53 +173,85 @@ moved-kept t run posts vars clocks s h z known e v vz cz =
       record { places = placed-length (run .places) posts n ∙ z .places; vars = vz; clocks = cz },
     )
 
--- A step by EPSILON keeps a run one of its table's, whatever it answers.
-pub idle-keeps : (t : List ℕ) (run : ProgramGraphRun) (posts : List ℕ) → Sound t → runFormed t run ≡ true → Sized run
+-- a step by EPSILON keeps a run one of its table's, whatever it answers
+idle-keeps : (t : List ℕ) (run : ProgramGraphRun) (posts : List ℕ) → Sound t → runFormed t run ≡ true → Sized run
     → allBelow (length posts) (postKnown t posts) ≡ true → length posts ≡ run .processes
     → (runFormed t (idleOf t run posts .run) ≡ true) × Sized (idleOf t run posts .run)
 unfolding idleOf
 idle-keeps t run posts s h z known e =
-    rung (Kept t) _ (refusedRun R.UnsatisfiedGuard run) _ (h, z)
+    rung (λ (x : Stepped). Kept t (x .run)) _ (refusedRun R.UnsatisfiedGuard run) _ (h, z)
     (λ q. moved-kept t run posts (run .vars) (run .clocks) s h z known e (vars-fit t run h) (z .vars) (z .clocks))
 
--- A step by a plain action keeps a run one of its table's, whatever it answers.
-pub plain-keeps : (t : List ℕ) (run : ProgramGraphRun) (a : ℕ) (posts : List ℕ) (word : ℕ) → Sound t → runFormed t run ≡ true → Sized run
+-- so does a step by a plain action
+plain-keeps : (t : List ℕ) (run : ProgramGraphRun) (a : ℕ) (posts : List ℕ) (word : ℕ) → Sound t → runFormed t run ≡ true → Sized run
     → a < actionCount t → actionKind t a ≡ 0 → allBelow (length posts) (postKnown t posts) ≡ true → length posts ≡ run .processes
     → (runFormed t (plainOf t run a posts word .run) ≡ true) × Sized (plainOf t run a posts word .run)
 unfolding plainOf
 plain-keeps t run a posts word s h z l k known e =
-    rung (Kept t) _ (refusedRun R.UnsatisfiedGuard run) _ (h, z)
-    (λ q. rung (Kept t) _ (refusedRun R.Overflow run) _ (h, z)
+    let P : Stepped → Type 0 = λ x. Kept t (x .run) in
+    rung P _ (refusedRun R.UnsatisfiedGuard run) _ (h, z)
+    (λ q. rung P _ (refusedRun R.Overflow run) _ (h, z)
     (λ r. moved-kept t run posts (effectedOf t a (run .vars) word .vars) (clocksAfter t a (run .clocks)) s h z known e
     (effects-keep t s a l k (run .vars) word (effectCount t a) (omega arith) (z .vars) (vars-fit t run h))
     (effects-length t a _ (effectCount t a) ∙ z .vars) (reset-length t a (run .clocks) (resetCount t a) ∙ z .clocks)))
 
--- a choice between two that are kept
-choice : (P : Stepped → Type 0) (b : Bool) (r s : Stepped) → P r → P s → P (cond b r s)
-choice P true r s h k = h
-choice P false r s h k = k
-
 -- A step keeps a run one of its table's, whatever it answers.
 pub transition-keeps : (t : List ℕ) (run : ProgramGraphRun) (a : ℕ) (posts : List ℕ) (word : ℕ) → fitsTable t run ≡ true → Sized run
     → (fitsTable t (transitionOf t run a posts word .run) ≡ true) × Sized (transitionOf t run a posts word .run)
-unfolding fitsTable transitionOf stepOf actedOf
-transition-keeps t run a posts word f z = (and-both (table-formed t run f) (kept .0), kept .1)
-  where
-    s : Sound t
-    s = fitting t run f .0
+unfolding transitionOf stepOf actedOf
+transition-keeps t run a posts word f z =
+    from-kept t run (transitionOf t run a posts word .run) f (λ s h.
+    let P : Stepped → Type 0 = λ x. Kept t (x .run) in
+    rung P _ (refusedRun R.BadState run) _ (h, z)
+    (λ q. rung P _ (refusedRun R.MismatchingPostStates run) _ (h, z)
+    (λ e. rung P _ (refusedRun R.MissingLocation run) _ (h, z)
+    (λ known. either-way P (eqb a epsilon) _ _ (λ i. idle-keeps t run posts s h z known (eqb-true _ _ e))
+    (λ i. rung P _ (refusedRun R.MissingAction run) _ (h, z)
+    (λ l. rung P _ (refusedRun R.Communication run) _ (h, z)
+    (λ k. plain-keeps t run a posts word s h z (ltb-true _ _ l) (eqb-true _ _ k) known (eqb-true _ _ e))))))))
 
-    h : runFormed t run ≡ true
-    h = fitting t run f .1
+-- ---- a send and a receive
+-- where processes are ready, their posts are known
+ready-known : (t : List ℕ) (run : ProgramGraphRun) (a : ℕ) (posts : List ℕ) → Sound t → readyStill t run a posts ≡ true → length posts ≡ run .processes
+    → allBelow (length posts) (postKnown t posts) ≡ true
+ready-known t run a posts s r e =
+    let each = ready-exactly t (run .vars) (run .clocks) (run .clocks) (run .places) (run .processes) a posts .0 r in
+    all-from (postKnown t posts) (length posts) (λ p l.
+    let k = each p (omega arith) in
+    post-known t posts p (subst (λ (x : ℕ). x < locationCount t) (k .1 .to) (s .transition (k .0) (k .1 .known) .post)))
 
-    kept : Kept t (transitionOf t run a posts word)
-    kept =
-        rung (Kept t) _ (refusedRun R.BadState run) _ (h, z)
-        (λ q. rung (Kept t) _ (refusedRun R.MismatchingPostStates run) _ (h, z)
-        (λ e. rung (Kept t) _ (refusedRun R.MissingLocation run) _ (h, z)
-        (λ known. choice (Kept t) (eqb a epsilon) _ _ (idle-keeps t run posts s h z known (eqb-true _ _ e))
-        (rung (Kept t) _ (refusedRun R.MissingAction run) _ (h, z)
-        (λ l. rung (Kept t) _ (refusedRun R.Communication run) _ (h, z)
-        (λ k. plain-keeps t run a posts word s h z (ltb-true _ _ l) (eqb-true _ _ k) known (eqb-true _ _ e)))))))
+-- A send keeps a run one of its table's, whatever it answers.
+pub send-keeps : (t : List ℕ) (run : ProgramGraphRun) (a : ℕ) (posts : List ℕ) (word : ℕ) → fitsTable t run ≡ true → Sized run
+    → (fitsTable t (sendOf t run a posts word .run) ≡ true) × Sized (sendOf t run a posts word .run)
+unfolding sendOf sentOf saidOf
+send-keeps t run a posts word f z =
+    from-kept t run (sendOf t run a posts word .run) f (λ s h.
+    let P : Sent → Type 0 = λ x. Kept t (x .run) in
+    rung P _ (refusedSend R.BadState run) _ (h, z)
+    (λ q. rung P _ (refusedSend R.NotSend run) _ (h, z)
+    (λ n. rung P _ (refusedSend R.MismatchingPostStates run) _ (h, z)
+    (λ e. rung P _ (refusedSend R.UnsatisfiedGuard run) _ (h, z)
+    (λ r. rung P _ (refusedSend R.NotSend run) _ (h, z)
+    (λ k. rung P _ (refusedSend R.Overflow run) _ (h, z)
+    (λ v. moved-kept t run posts (run .vars) (run .clocks) s h z (ready-known t run a posts s r (eqb-true _ _ e)) (eqb-true _ _ e)
+    (vars-fit t run h) (z .vars) (z .clocks))))))))
+
+-- So does a receive.
+pub receive-keeps : (t : List ℕ) (run : ProgramGraphRun) (a : ℕ) (posts : List ℕ) (m : Message) → fitsTable t run ≡ true → Sized run
+    → (fitsTable t (receiveOf t run a posts m .run) ≡ true) × Sized (receiveOf t run a posts m .run)
+unfolding receiveOf receivedOf heardOf varFits
+receive-keeps t run a posts m f z =
+    from-kept t run (receiveOf t run a posts m .run) f (λ s h.
+    let P : Stepped → Type 0 = λ x. Kept t (x .run) in
+    rung P _ (refusedRun R.BadState run) _ (h, z)
+    (λ q. rung P _ (refusedRun R.NotReceive run) _ (h, z)
+    (λ n. rung P _ (refusedRun R.MismatchingPostStates run) _ (h, z)
+    (λ e. rung P _ (refusedRun R.UnsatisfiedGuard run) _ (h, z)
+    (λ r. rung P _ (refusedRun R.NotReceive run) _ (h, z)
+    (λ k. rung P _ (refusedRun R.TypeMismatch run) _ (h, z)
+    (λ v. moved-kept t run posts (takenOf t a m (run .vars)) (run .clocks) s h z (ready-known t run a posts s r (eqb-true _ _ e)) (eqb-true _ _ e)
+    (all-kept (varFits t (run .vars)) (varFits t (takenOf t a m (run .vars))) (variableCount t) (λ i l g. taken-fits t a m (run .vars) i v g) (vars-fit t run h))
+    (taken-length t a m (run .vars) (effectCount t a) ∙ z .vars) (z .clocks))))))))
 
 -- ---- a fresh run
 module _ (t : List ℕ) where
@@ -225,7 +261,7 @@ module _ (t : List ℕ) where
   start-length (suc n) = length-set (startPlaces t n) n (placeAt t n) ∙ start-length n
 
   -- each of the first n processes is where it starts
-  start-at : (n p : ℕ) → p < n → n ≤ 4 → getD (startPlaces t n) p 0 ≡ placeAt t p
+  pub start-at : (n p : ℕ) → p < n → n ≤ 4 → getD (startPlaces t n) p 0 ≡ placeAt t p
   unfolding startPlaces
   start-at zero p l h = absurd (not-suc-le-zero l)
   start-at (suc n) p l h =

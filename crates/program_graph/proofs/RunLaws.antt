@@ -1,17 +1,19 @@
--- What a run that is one of its table's says: its counts and its places; and a choice by its test.
+-- What a run that is one of its table's says: its counts, its places and its room; and a choice by its test.
 use Prim.Native.Nat.{ℕ, _≤_, _<_}
-use mathlib.Core.Path.{_≡_, sym, ap, _∙_}
+use mathlib.Core.Path.{_≡_, refl, sym, ap, _∙_}
 use mathlib.Core.Bool.{Bool, true, false, cond}
 use mathlib.Core.List.{List}
 use native.Mathlib.Omega.{arith}
-use lib.ListN.{getD}
+use lib.ListN.{length, getD}
 use borrow.Author.Tests.{eqb-true, ltb-true}
 use Rattle.laws.proofs.BelowLaws.{and-first, and-rest, all-at}
-use Rattle.graph_tables.specs.Words.{variableCount, clockCount, locationCount, processCount}
+use Rattle.graph_tables.specs.Words.{variableCount, clockCount, locationCount, actionCount, processCount, actionKind}
 use Rattle.graph_tables.specs.Formed.{wellFormed}
 use Rattle.graph_tables.specs.Sound.{Sound}
 use Rattle.graph_tables.proofs.SoundLaws.{sound}
+use Rattle.program_graph.specs.Facts.{Sized}
 use Rattle.program_graph.specs.Running.{placeKnown, countsSame, runFormed, fitsTable}
+use Rattle.program_graph.specs.Messaging.{isKind}
 use Rattle.program_graph.specs.declared.run.ProgramGraphRun.{ProgramGraphRun}
 
 module _ (t : List ℕ) (run : ProgramGraphRun) where
@@ -49,10 +51,21 @@ module _ (t : List ℕ) (run : ProgramGraphRun) where
   pub few-timers : Sound t → runFormed t run ≡ true → run .timers ≤ 8
   few-timers s h = omega (arith, same-timers h, s .counts .clocks)
 
+  -- ---- there is room for its processes and clocks
+  pub places-room : fitsTable t run ≡ true → Sized run → run .processes ≤ length (run .places)
+  places-room h z = omega (arith, few-processes (fitting h .0) (fitting h .1), z .places)
+
+  pub clocks-room : fitsTable t run ≡ true → Sized run → run .timers ≤ length (run .clocks)
+  clocks-room h z = omega (arith, few-timers (fitting h .0) (fitting h .1), z .clocks)
+
   -- ---- each process is at a location
   pub places-below : runFormed t run ≡ true → (p : ℕ) → p < run .processes → getD (run .places) p 0 < locationCount t
   unfolding runFormed placeKnown
   places-below h p l = ltb-true _ _ (all-at (placeKnown t (run .places)) _ p (and-first _ _ (and-rest _ _ h)) l)
+
+-- ---- an action of a kind is known
+pub of-kind : (t : List ℕ) (a kind : ℕ) → isKind t a kind ≡ true → (a < actionCount t) × (actionKind t a ≡ kind)
+of-kind t a kind h = (ltb-true _ _ (and-first _ _ h), eqb-true _ _ (and-rest _ _ h))
 
 -- ---- a choice, by its test
 pub chosen : {A : Type 0} {b : Bool} {r x : A} (y : A) → b ≡ true → r ≡ x → r ≡ cond b x y
@@ -60,3 +73,8 @@ chosen {x = x} y e h = h ∙ ap (λ (b : Bool). cond b x y) (sym e)
 
 pub left-over : {A : Type 0} {b : Bool} {r y : A} (x : A) → b ≡ false → r ≡ y → r ≡ cond b x y
 left-over {y = y} x e h = h ∙ ap (λ (b : Bool). cond b x y) (sym e)
+
+-- what is so of each side where the test chooses it is so of the choice
+pub either-way : {A : Type 0} (P : A → Type 0) (b : Bool) (x y : A) → (b ≡ true → P x) → (b ≡ false → P y) → P (cond b x y)
+either-way P true x y h k = h refl
+either-way P false x y h k = k refl

@@ -1,41 +1,47 @@
--- What stepping and waiting of one graph do.
-use Prim.Native.Nat.{ℕ, zero, suc, _+_, _<_, _≤_}
+-- What the calls on a run do.
+use Prim.Native.Nat.{ℕ, _+_, _<_, _≤_}
 use mathlib.Core.Path.{_≡_, refl, sym, ap, subst, _∙_}
-use mathlib.Core.Bool.{Bool, true, false, cond, _||_}
+use mathlib.Core.Bool.{Bool, true, false}
 use mathlib.Core.List.{List}
 use mathlib.Core.Logic.{_↔_}
+use native.Mathlib.Decide.{ℕ-discrete}
 use native.Mathlib.Omega.{arith}
-use borrow.Author.Tests.{eqb-true, eq-eqb}
+use borrow.Author.Tests.{eqb-true, ltb-true}
 use lib.Dec.{eqb}
-use lib.ListN.{length, getD}
+use lib.ListN.{getD, replicate}
 use Rattle.laws.specs.Ladder.{unless}
-use Rattle.laws.specs.Below.{_and_, anyBelow}
-use Rattle.laws.proofs.BelowLaws.{and-first, and-rest, and-both, all-at, all-from}
-use Rattle.laws.proofs.Tests.{never}
+use Rattle.laws.specs.Below.{_and_}
+use Rattle.laws.proofs.Ladder.{passed, rung}
+use Rattle.laws.proofs.BelowLaws.{and-first, and-rest, all-at, all-from}
 use Rattle.time.specs.Time.{inRange}
 use Rattle.time.proofs.Theorems.{between}
 use Rattle.grammar.specs.Evaluation.{blank}
 use Rattle.grammar.specs.declared.values.Slot.{Slot}
+use Rattle.grammar.specs.declared.evaluation.Evaluated.the-variants.{Known}
 use Rattle.graph_tables.specs.declared.refusals.Refusal.{Refusal}
 use Rattle.graph_tables.specs.declared.refusals.Refusal.the-variants as R
-use Rattle.graph_tables.specs.Words.{transitionCount, invariantCount, resetCount, resetAt, effectCount, effectVar, keyOf, limitCount, preOf, actionOf, postOf, clockOf, limitRange, epsilon}
-use Rattle.graph_steps.specs.Steps.{limitHolds, limitsHold, invariantsHold, guardHolds, passesOf, candidateOf, leadsOf, processReady, readyOf, clocksAfter, effectedOf, placedBelow, shiftedBelow, placeHolds}
-use Rattle.graph_steps.proofs.StepLaws.{reset-at, reset-other, shifted-at, placed-at, effects-other}
-use Rattle.graph_steps.proofs.AnyLaws.{any-found}
+use Rattle.graph_tables.specs.declared.handed.Message.{Message}
+use Rattle.graph_tables.specs.Words.{variableCount, clockCount, resetCount, resetAt, effectCount, effectVar, clockOf, limitRange, epsilon}
+use Rattle.graph_tables.specs.Sound.{Sound}
+use Rattle.graph_steps.specs.Steps.{clocksAfter, effectedOf, clockFits, shiftedBelow, placeHolds}
+use Rattle.graph_steps.specs.Messages.{spokenOf, messageOf, noMessage, takenOf}
+use Rattle.graph_steps.specs.declared.inner.effects.Effected.{Effected}
+use Rattle.graph_steps.proofs.StepLaws.{fits-at, clock-fits, reset-at, reset-other, shifted-at, placed-at, effects-other}
+use Rattle.graph_steps.proofs.MessageLaws.{taken-kept, taken-last}
 use Rattle.graph_tables.specs.declared.answers.Done.{Done}
 use Rattle.graph_tables.specs.declared.answers.Done.the-variants as Done
+use Rattle.program_graph.specs.Facts.{Sized, InvariantsAt, Holding, AllPass, PlainAsked}
 use Rattle.program_graph.specs.declared.run.ProgramGraphRun.{ProgramGraphRun}
 use Rattle.program_graph.specs.declared.run.Stepped.{Stepped}
+use Rattle.program_graph.specs.declared.run.Sent.{Sent}
 use Rattle.program_graph.specs.declared.run.Held.{Held}
 use Rattle.program_graph.specs.declared.run.Held.the-variants as Held
-use Rattle.program_graph.specs.Running.{refusedRun, acceptedRun, fitsTable, movedTo, idleOf, plainOf, actedOf, stepOf, transitionOf, waitFits, waitHolds, later, waitedOf, waitOf, canWaitOf}
-
--- ---- answers that are not the same
-refused-accepted : {P : Type 0} (r : Refusal) → Done.Refused r ≡ Done.Accepted → P
-refused-accepted r e = let z : _≡_ {A = ℕ} 0 1 = cc in absurd (omega arith)
-
-accepted-refused : {P : Type 0} (r : Refusal) → Done.Accepted ≡ Done.Refused r → P
-accepted-refused r e = refused-accepted r (sym e)
+use Rattle.program_graph.specs.Running.{refusedRun, acceptedRun, fitsTable, readyStill, movedTo, idleOf, plainOf, actedOf, stepOf, transitionOf, waitFits, waitHolds, later, waitedOf, waitOf, canWaitOf}
+use Rattle.program_graph.specs.Messaging.{refusedSend, isKind, saidOf, sentOf, sendOf, heardOf, receivedOf, receiveOf}
+use Rattle.program_graph.proofs.SaidLaws.{turn, said, message-at}
+use Rattle.program_graph.proofs.RunLaws.{fitting, same-timers, places-room, clocks-room, places-below, either-way}
+use Rattle.program_graph.proofs.Answers.{refused-accepted, accepted-refused}
+use Rattle.program_graph.proofs.RunReady.{invariant-at, invariants-from, step-asked, all-pass}
 
 -- ---- asking for a wait
 -- an answer that something holds, of three tests, and the ladder of the same three
@@ -54,262 +60,344 @@ unfolding canWaitOf waitOf waitedOf
 can-wait-exactly t run delta = asked (fitsTable t run) (waitFits run delta) (waitHolds t run delta) run (later run delta)
 
 -- ---- refusals
--- a refusal gives back the run: of a ladder, rung by rung
+-- a refusal gives back the run
 abbrev Returns : ProgramGraphRun → Stepped → Type 0
 Returns run s = (r : Refusal) → s .answer ≡ Done.Refused r → s .run ≡ run
 
-rung : (run : ProgramGraphRun) (b : Bool) (q : Refusal) (s : Stepped) → Returns run s → Returns run (unless b (refusedRun q run) s)
-unfolding unless
-rung run true q s k r e = k r e
-rung run false q s k r e = refl
+-- a refusal gives back the run, and no message
+abbrev Withholds : ProgramGraphRun → Sent → Type 0
+Withholds run s = (r : Refusal) → s .answer ≡ Done.Refused r → (s .run ≡ run) × (s .message ≡ noMessage)
 
-moved : (run after : ProgramGraphRun) → Returns run (acceptedRun after)
-moved run after r e = accepted-refused r e
+-- of a ladder, rung by rung
+module _ (run : ProgramGraphRun) where
+  returned : (b : Bool) (q : Refusal) (s : Stepped) → Returns run s → Returns run (unless b (refusedRun q run) s)
+  returned b q s k = rung (Returns run) b (refusedRun q run) s (λ r e. refl) (λ e. k)
 
-either : (run : ProgramGraphRun) (b : Bool) (s u : Stepped) → Returns run s → Returns run u → Returns run (cond b s u)
-either run true s u k l = k
-either run false s u k l = l
+  withheld : (b : Bool) (q : Refusal) (s : Sent) → Withholds run s → Withholds run (unless b (refusedSend q run) s)
+  withheld b q s k = rung (Withholds run) b (refusedSend q run) s (λ r e. (refl, refl)) (λ e. k)
 
--- A refused step gives back the run.
-pub transition-refused : (t : List ℕ) (run : ProgramGraphRun) (a : ℕ) (posts : List ℕ) (word : ℕ) (r : Refusal)
-    → transitionOf t run a posts word .answer ≡ Done.Refused r → transitionOf t run a posts word .run ≡ run
-unfolding transitionOf stepOf idleOf actedOf plainOf
-transition-refused t run a posts word =
-    rung run _ R.BadState _
-    (rung run _ R.MismatchingPostStates _
-    (rung run _ R.MissingLocation _
-    (either run (eqb a epsilon) _ _ (rung run _ R.UnsatisfiedGuard _ (moved run _))
-    (rung run _ R.MissingAction _ (rung run _ R.Communication _ (rung run _ R.UnsatisfiedGuard _ (rung run _ R.Overflow _ (moved run _))))))))
+  moved : (after : ProgramGraphRun) → Returns run (acceptedRun after)
+  moved after r e = accepted-refused r e
 
--- A refused wait gives back the run.
-pub wait-refused : (t : List ℕ) (run : ProgramGraphRun) (delta : ℕ) (r : Refusal) → waitOf t run delta .answer ≡ Done.Refused r → waitOf t run delta .run ≡ run
-unfolding waitOf waitedOf
-wait-refused t run delta = rung run _ R.BadState _ (rung run _ R.Overflow _ (rung run _ R.Invariant _ (moved run _)))
+module _ (t : List ℕ) (run : ProgramGraphRun) where
+  -- A refused step gives back the run.
+  pub transition-refused : (a : ℕ) (posts : List ℕ) (word : ℕ) (r : Refusal)
+      → transitionOf t run a posts word .answer ≡ Done.Refused r → transitionOf t run a posts word .run ≡ run
+  unfolding transitionOf stepOf idleOf actedOf plainOf
+  transition-refused a posts word =
+      returned run _ R.BadState _
+      (returned run _ R.MismatchingPostStates _
+      (returned run _ R.MissingLocation _
+      (either-way (Returns run) (eqb a epsilon) _ _ (λ e. returned run _ R.UnsatisfiedGuard _ (moved run _))
+      (λ e.
+      returned run _ R.MissingAction _
+      (returned run _ R.Communication _ (returned run _ R.UnsatisfiedGuard _ (returned run _ R.Overflow _ (moved run _))))))))
 
--- ---- when processes are ready
--- a test that some number below n passes
-or-some : (p : ℕ → Bool) (n : ℕ) (b : Bool) → (b ≡ true → (k : ℕ) × (k < n) × (p k ≡ true)) → (b || p n) ≡ true → (k : ℕ) × (k < suc n) × (p k ≡ true)
-or-some p n true s h = let q : (k : ℕ) × (k < n) × (p k ≡ true) = s refl in (q .0, omega (arith, q .1), q .2)
-or-some p n false s h = (n, omega arith, h)
+  -- A refused wait gives back the run.
+  pub wait-refused : (delta : ℕ) (r : Refusal) → waitOf t run delta .answer ≡ Done.Refused r → waitOf t run delta .run ≡ run
+  unfolding waitOf waitedOf
+  wait-refused delta = returned run _ R.BadState _ (returned run _ R.Overflow _ (returned run _ R.Invariant _ (moved run _)))
 
-any-some : (p : ℕ → Bool) (n : ℕ) → anyBelow n p ≡ true → (k : ℕ) × (k < n) × (p k ≡ true)
-unfolding anyBelow
-any-some p zero h = never h
-any-some p (suc n) h = or-some p n (anyBelow n p) (any-some p n) h
+  -- A refused send gives back the run, and no message.
+  pub send-refused : (a : ℕ) (posts : List ℕ) (word : ℕ) (r : Refusal)
+      → sendOf t run a posts word .answer ≡ Done.Refused r → (sendOf t run a posts word .run ≡ run) × (sendOf t run a posts word .message ≡ noMessage)
+  unfolding sendOf sentOf saidOf
+  send-refused a posts word =
+      withheld run _ R.BadState _
+      (withheld run _ R.NotSend _
+      (withheld run _ R.MismatchingPostStates _
+      (withheld run _ R.UnsatisfiedGuard _ (withheld run _ R.NotSend _ (withheld run _ R.Overflow _ (λ r e. accepted-refused r e))))))
 
--- the invariants of a location, one by one
-invariant-at : (t clocks : List ℕ) (l : ℕ) → invariantsHold t clocks l ≡ true
-    → (i : ℕ) → i < invariantCount t l → inRange (limitRange t (128 + l) i) (getD clocks (clockOf t (128 + l) i) 0) ≡ true
-unfolding invariantsHold limitsHold limitHolds
-invariant-at t clocks l h i m = all-at (limitHolds t (128 + l) clocks) _ i h m
+  -- A refused receive gives back the run.
+  pub receive-refused : (a : ℕ) (posts : List ℕ) (m : Message) (r : Refusal)
+      → receiveOf t run a posts m .answer ≡ Done.Refused r → receiveOf t run a posts m .run ≡ run
+  unfolding receiveOf receivedOf heardOf
+  receive-refused a posts m =
+      returned run _ R.BadState _
+      (returned run _ R.NotReceive _
+      (returned run _ R.MismatchingPostStates _
+      (returned run _ R.UnsatisfiedGuard _ (returned run _ R.NotReceive _ (returned run _ R.TypeMismatch _ (moved run _))))))
 
-invariants-from : (t clocks : List ℕ) (l : ℕ)
-    → ((i : ℕ) → i < invariantCount t l → inRange (limitRange t (128 + l) i) (getD clocks (clockOf t (128 + l) i) 0) ≡ true)
-    → invariantsHold t clocks l ≡ true
-unfolding invariantsHold limitsHold limitHolds
-invariants-from t clocks l f = all-from (limitHolds t (128 + l) clocks) _ f
+-- ---- what an accepted call does
+-- a call of an action whose processes were ready moved them to their posts
+record Moved (t : List ℕ) (run : ProgramGraphRun) (a : ℕ) (posts : List ℕ) (vars : List Slot) (clocks : List ℕ) (after : ProgramGraphRun) : Type 0 where
+  fits : fitsTable t run ≡ true
+  ready : AllPass t run a posts clocks
+  same : after ≡ movedTo run posts vars clocks
 
--- transition k leads from `pre` by the action to `post` and passes
-pub record Passing (t : List ℕ) (vars : List Slot) (clocks after : List ℕ) (pre action post k : ℕ) : Type 0 where
-  -- it is one of the table's
-  pub known : k < transitionCount t
-  -- it leads from `pre`, by the action, to `post`
-  pub from : preOf (keyOf t k) ≡ pre
-  pub by : actionOf (keyOf t k) ≡ action
-  pub to : postOf (keyOf t k) ≡ post
-  -- its guard holds on the variables, and each of its limits on the clocks
-  pub guard : guardHolds t vars k ≡ true
-  pub limits : (i : ℕ) → i < limitCount t k → inRange (limitRange t k i) (getD clocks (clockOf t k i) 0) ≡ true
-  -- each invariant of `post` holds on the clocks after
-  pub invariants : (i : ℕ) → i < invariantCount t post → inRange (limitRange t (128 + post) i) (getD after (clockOf t (128 + post) i) 0) ≡ true
+module _ {t : List ℕ} {run : ProgramGraphRun} {a : ℕ} {posts : List ℕ} {vars : List Slot} {clocks : List ℕ} {after : ProgramGraphRun}
+    (m : Moved t run a posts vars clocks after) where
+  -- each process is at its post
+  at-posts : Sized run → (p : ℕ) → p < run .processes → getD (after .places) p 0 ≡ getD posts p 0
+  at-posts z p l = ap (λ (r : ProgramGraphRun). getD (r .places) p 0) (m .same) ∙ placed-at (run .places) posts (run .processes) p l (places-room t run (m .fits) z)
 
-module _ (t : List ℕ) (vars : List Slot) (clocks after : List ℕ) where
-  passing : (pre action post k : ℕ) → k < transitionCount t → leadsOf t vars clocks after pre action post k ≡ true → Passing t vars clocks after pre action post k
-  unfolding leadsOf candidateOf passesOf limitsHold limitHolds
-  passing pre action post k l h =
-      let c = and-first _ _ h in
-      let q = and-rest _ _ h in
-      let e : postOf (keyOf t k) ≡ post = eqb-true _ _ (and-rest _ _ (and-rest _ _ c)) in
-      record {
-        known = l;
-        from = eqb-true _ _ (and-first _ _ c);
-        by = eqb-true _ _ (and-first _ _ (and-rest _ _ c));
-        to = e;
-        guard = and-first _ _ q;
-        limits = λ i m. all-at (limitHolds t k clocks) _ i (and-first _ _ (and-rest _ _ q)) m;
-        invariants = invariant-at t after post (subst (λ (l : ℕ). invariantsHold t after l ≡ true) e (and-rest _ _ (and-rest _ _ q)));
-      }
+  -- whose invariants hold
+  holding : Sized run → Holding t after
+  holding z =
+      subst (λ (r : ProgramGraphRun). Holding t r) (sym (m .same))
+      (λ p l.
+      subst (λ (x : ℕ). InvariantsAt t clocks x) (sym (placed-at (run .places) posts (run .processes) p l (places-room t run (m .fits) z))) (m .ready p l .1 .invariants))
 
-  leading : (pre action post k : ℕ) → Passing t vars clocks after pre action post k → leadsOf t vars clocks after pre action post k ≡ true
-  unfolding leadsOf candidateOf passesOf limitsHold limitHolds
-  leading pre action post k h =
-      and-both
-      (and-both (eq-eqb _ _ (h .from)) (and-both (eq-eqb _ _ (h .by)) (eq-eqb _ _ (h .to))))
-      (and-both (h .guard)
-      (and-both (all-from (limitHolds t k clocks) _ (h .limits))
-      (subst (λ (l : ℕ). invariantsHold t after l ≡ true) (sym (h .to)) (invariants-from t after post (h .invariants)))))
+  -- the variables and the clocks are these
+  its-vars : after .vars ≡ vars
+  its-vars = ap (λ (r : ProgramGraphRun). r .vars) (m .same)
 
-  -- Processes are ready exactly when each has a transition from its place, by the action, to its post that passes.
-  pub ready-exactly : (places : List ℕ) (n action : ℕ) (posts : List ℕ)
-      → (readyOf t vars clocks after places n action posts ≡ true)
-      ↔ ((p : ℕ) → p < n → (k : ℕ) × Passing t vars clocks after (getD places p 0) action (getD posts p 0) k)
-  unfolding readyOf processReady
-  ready-exactly places n action posts = (
-    λ h p l.
-        let s = any-some (leadsOf t vars clocks after (getD places p 0) action (getD posts p 0)) (transitionCount t)
-        (all-at (processReady t vars clocks after places action posts) n p h l) in
-        (s .0, passing _ _ _ _ (s .1) (s .2)),
-    λ f. all-from (processReady t vars clocks after places action posts) n
-        (λ p l. any-found _ _ (f p l .0) (f p l .1 .known) (leading _ _ _ _ (f p l .1))),
-  )
+  its-clocks : after .clocks ≡ clocks
+  its-clocks = ap (λ (r : ProgramGraphRun). r .clocks) (m .same)
 
-  -- where processes are ready, each is at a location whose invariants hold once all have moved
-  moved-holds : (places : List ℕ) (n action : ℕ) (posts : List ℕ) → readyOf t vars clocks after places n action posts ≡ true → n ≤ length places
-      → (p : ℕ) → p < n → placeHolds t (placedBelow places posts n) after p ≡ true
-  unfolding placeHolds
-  moved-holds places n action posts h m p l =
-      rw (placed-at places posts n p l m) (invariants-from t after (getD posts p 0) (ready-exactly places n action posts .0 h p l .1 .invariants))
+-- ---- a step
+module _ (t : List ℕ) (run : ProgramGraphRun) (posts : List ℕ) (word : ℕ) where
+  -- an accepted step by EPSILON
+  idle-moved : transitionOf t run epsilon posts word .answer ≡ Done.Accepted
+      → Moved t run epsilon posts (run .vars) (run .clocks) (transitionOf t run epsilon posts word .run)
+  unfolding transitionOf stepOf idleOf
+  idle-moved =
+      let P : Stepped → Type 0 = λ s. s .answer ≡ Done.Accepted → Moved t run epsilon posts (run .vars) (run .clocks) (s .run) in
+      rung P (fitsTable t run) (refusedRun R.BadState run) _ (λ e. refused-accepted _ e)
+      (λ f. rung P _ (refusedRun R.MismatchingPostStates run) _ (λ e. refused-accepted _ e)
+      (λ o. rung P _ (refusedRun R.MissingLocation run) _ (λ e. refused-accepted _ e)
+      (λ k. rung P (readyStill t run epsilon posts) (refusedRun R.UnsatisfiedGuard run) _ (λ e. refused-accepted _ e)
+      (λ r e. record { fits = f; ready = all-pass t run posts epsilon (run .clocks) .0 r; same = refl }))))
 
--- ---- which steps are refused for their guards
--- a rung that is passed is not where a ladder stops
-guarded : (b : Bool) (run : ProgramGraphRun) (s : Stepped) → (s .answer ≡ Done.Refused R.UnsatisfiedGuard → ⊥)
-    → b ≡ true → unless b (refusedRun R.UnsatisfiedGuard run) s .answer ≡ Done.Refused R.UnsatisfiedGuard → ⊥
-unfolding unless
-guarded true run s n e h = n h
-guarded false run s n e h = never e
+  -- an accepted step by another action
+  plain-moved : (a : ℕ) → (a ≡ epsilon → ⊥) → transitionOf t run a posts word .answer ≡ Done.Accepted
+      → PlainAsked t run a posts × Moved t run a posts (effectedOf t a (run .vars) word .vars) (clocksAfter t a (run .clocks)) (transitionOf t run a posts word .run)
+  unfolding transitionOf stepOf actedOf plainOf
+  plain-moved a n =
+      let P : Stepped → Type 0
+      = λ s. s .answer ≡ Done.Accepted
+      → PlainAsked t run a posts × Moved t run a posts (effectedOf t a (run .vars) word .vars) (clocksAfter t a (run .clocks)) (s .run) in
+      rung P (fitsTable t run) (refusedRun R.BadState run) _ (λ e. refused-accepted _ e)
+      (λ f. rung P _ (refusedRun R.MismatchingPostStates run) _ (λ e. refused-accepted _ e)
+      (λ o. rung P _ (refusedRun R.MissingLocation run) _ (λ e. refused-accepted _ e)
+      (λ k. either-way P (eqb a epsilon) _ _ (λ e. absurd (n (eqb-true _ _ e)))
+      (λ x. rung P _ (refusedRun R.MissingAction run) _ (λ e. refused-accepted _ e)
+      (λ l. rung P _ (refusedRun R.Communication run) _ (λ e. refused-accepted _ e)
+      (λ c. rung P _ (refusedRun R.UnsatisfiedGuard run) _ (λ e. refused-accepted _ e)
+      (λ r. rung P _ (refusedRun R.Overflow run) _ (λ e. refused-accepted _ e)
+      (λ v e. (
+        record { step = step-asked t run posts f o k; action = ltb-true _ _ l; plain = eqb-true _ _ c },
+        record { fits = f; ready = all-pass t run posts a (clocksAfter t a (run .clocks)) .0 r; same = refl },
+      )))))))))
 
--- a ladder that stops with 26 or is accepted does not stop with 8
-fitting : (b : Bool) (run after : ProgramGraphRun) → unless b (refusedRun R.Overflow run) (acceptedRun after) .answer ≡ Done.Refused R.UnsatisfiedGuard → ⊥
-unfolding unless
-fitting true run after e = accepted-refused _ e
-fitting false run after e = let z : _≡_ {A = ℕ} 0 1 = cc in absurd (omega arith)
+  -- an accepted step, by whichever action
+  step-moved : (a : ℕ) → transitionOf t run a posts word .answer ≡ Done.Accepted
+      → (vars : List Slot) × (clocks : List ℕ) × Moved t run a posts vars clocks (transitionOf t run a posts word .run)
+  step-moved a = by (ℕ-discrete a epsilon)
+    where
+      by : Dec (a ≡ epsilon) → transitionOf t run a posts word .answer ≡ Done.Accepted
+          → (vars : List Slot) × (clocks : List ℕ) × Moved t run a posts vars clocks (transitionOf t run a posts word .run)
+      by (yes q) = rw q (λ e. (run .vars, run .clocks, idle-moved e))
+      by (no q) = λ e. (effectedOf t a (run .vars) word .vars, clocksAfter t a (run .clocks), plain-moved a q e .1)
 
--- a rung that fails is where a ladder stops, and one of an accepted ladder is passed
-stops : (b : Bool) (r : Refusal) (run : ProgramGraphRun) (s : Stepped) → b ≡ false → unless b (refusedRun r run) s ≡ refusedRun r run
-unfolding unless
-stops b r run s e = ap (λ (x : Bool). unless x (refusedRun r run) s) e
-
-passes : (b : Bool) (r : Refusal) (run : ProgramGraphRun) (s : Stepped) → unless b (refusedRun r run) s .answer ≡ Done.Accepted
-    → (b ≡ true) × (unless b (refusedRun r run) s ≡ s)
-unfolding unless
-passes true r run s h = (refl, refl)
-passes false r run s h = refused-accepted r h
-
--- ---- a step by an action
-module _ (t : List ℕ) (run : ProgramGraphRun) (a : ℕ) (posts : List ℕ) (word : ℕ) where
-  -- each process has a transition that passes
-  abbrev pub plainReady : Bool
-  plainReady = readyOf t (run .vars) (run .clocks) (clocksAfter t a (run .clocks)) (run .places) (run .processes) a posts
-
-  -- A step whose processes are ready is not refused for an unsatisfied guard.
-  pub plain-ready : plainReady ≡ true → plainOf t run a posts word .answer ≡ Done.Refused R.UnsatisfiedGuard → ⊥
-  unfolding plainOf
-  plain-ready e = guarded plainReady run _ (fitting (effectedOf t a (run .vars) word .fits) run _) e
-
-  -- A step whose processes are not ready is refused for an unsatisfied guard.
-  pub plain-unready : plainReady ≡ false → plainOf t run a posts word ≡ refusedRun R.UnsatisfiedGuard run
-  unfolding plainOf
-  plain-unready e = stops plainReady _ run _ e
-
-  -- an accepted step was ready, and gives this run
-  plain-accepted : plainOf t run a posts word .answer ≡ Done.Accepted
-      → (plainReady ≡ true) × (plainOf t run a posts word ≡ acceptedRun (movedTo run posts (effectedOf t a (run .vars) word .vars) (clocksAfter t a (run .clocks))))
-  unfolding plainOf
-  plain-accepted h =
-      let s = passes plainReady _ run _ h in
-      let u = passes (effectedOf t a (run .vars) word .fits) _ run _ (ap (λ (x : Stepped). x .answer) (sym (s .1)) ∙ h) in
-      (s .0, s .1 ∙ u .1)
+  -- After an accepted step each process is at its post.
+  pub step-moves : (a : ℕ) → transitionOf t run a posts word .answer ≡ Done.Accepted → Sized run
+      → (p : ℕ) → p < run .processes → getD (transitionOf t run a posts word .run .places) p 0 ≡ getD posts p 0
+  step-moves a e = at-posts (step-moved a e .2)
 
   -- After an accepted step the invariants of every occupied location hold.
-  pub plain-holds : plainOf t run a posts word .answer ≡ Done.Accepted → run .processes ≤ length (run .places)
-      → (p : ℕ) → p < run .processes → placeHolds t (plainOf t run a posts word .run .places) (plainOf t run a posts word .run .clocks) p ≡ true
-  plain-holds h m p l =
-      subst (λ (s : Stepped). placeHolds t (s .run .places) (s .run .clocks) p ≡ true) (sym (plain-accepted h .1))
-      (moved-holds t (run .vars) (run .clocks) (clocksAfter t a (run .clocks)) (run .places) (run .processes) a posts (plain-accepted h .0) m p l)
+  pub step-holds : (a : ℕ) → transitionOf t run a posts word .answer ≡ Done.Accepted → Sized run → Holding t (transitionOf t run a posts word .run)
+  step-holds a e = holding (step-moved a e .2)
 
-  -- After an accepted step each clock that the action resets is 0.
-  pub plain-resets : plainOf t run a posts word .answer ≡ Done.Accepted → (i : ℕ) → i < resetCount t a → resetAt t a i < length (run .clocks)
-      → getD (plainOf t run a posts word .run .clocks) (resetAt t a i) 0 ≡ 0
-  plain-resets h i l m = ap (λ (s : Stepped). getD (s .run .clocks) (resetAt t a i) 0) (plain-accepted h .1) ∙ reset-at t a (run .clocks) (resetCount t a) i l m
+  -- After an accepted step by EPSILON every variable and every clock is as before.
+  pub idle-still : transitionOf t run epsilon posts word .answer ≡ Done.Accepted
+      → (transitionOf t run epsilon posts word .run .vars ≡ run .vars) × (transitionOf t run epsilon posts word .run .clocks ≡ run .clocks)
+  idle-still e = (its-vars (idle-moved e), its-clocks (idle-moved e))
 
-  -- After an accepted step each other clock is as before.
-  pub plain-other-clock : plainOf t run a posts word .answer ≡ Done.Accepted → (c : ℕ) → ((i : ℕ) → i < resetCount t a → resetAt t a i ≡ c → ⊥)
-      → getD (plainOf t run a posts word .run .clocks) c 0 ≡ getD (run .clocks) c 0
-  plain-other-clock h c n = ap (λ (s : Stepped). getD (s .run .clocks) c 0) (plain-accepted h .1) ∙ reset-other t a (run .clocks) (resetCount t a) c n
+  -- After an accepted plain step each clock that the action resets is 0.
+  pub plain-resets : (a : ℕ) → (a ≡ epsilon → ⊥) → transitionOf t run a posts word .answer ≡ Done.Accepted → Sized run
+      → (i : ℕ) → i < resetCount t a → getD (transitionOf t run a posts word .run .clocks) (resetAt t a i) 0 ≡ 0
+  plain-resets a n e z i l =
+      let q : PlainAsked t run a posts = plain-moved a n e .0 in
+      let s : Sound t = fitting t run (q .step .fits) .0 in
+      let known : resetAt t a i < clockCount t = s .action a (q .action) .resets .clock i l in
+      ap (λ (x : List ℕ). getD x (resetAt t a i) 0) (its-clocks (plain-moved a n e .1))
+      ∙ reset-at t a (run .clocks) (resetCount t a) i l (omega (arith, s .counts .clocks, z .clocks))
 
-  -- After an accepted step each variable that no effect assigns is as before.
-  pub plain-other-variable : plainOf t run a posts word .answer ≡ Done.Accepted → (v : ℕ) → ((e : ℕ) → e < effectCount t a → effectVar t a e ≡ v → ⊥)
-      → getD (plainOf t run a posts word .run .vars) v blank ≡ getD (run .vars) v blank
-  plain-other-variable h v n = ap (λ (s : Stepped). getD (s .run .vars) v blank) (plain-accepted h .1) ∙ effects-other t a _ (effectCount t a) v n
+  -- After an accepted plain step each other clock is as before.
+  pub plain-other-clock : (a : ℕ) → (a ≡ epsilon → ⊥) → transitionOf t run a posts word .answer ≡ Done.Accepted
+      → (c : ℕ) → ((i : ℕ) → i < resetCount t a → resetAt t a i ≡ c → ⊥) → getD (transitionOf t run a posts word .run .clocks) c 0 ≡ getD (run .clocks) c 0
+  plain-other-clock a n e c none =
+      ap (λ (x : List ℕ). getD x c 0) (its-clocks (plain-moved a n e .1)) ∙ reset-other t a (run .clocks) (resetCount t a) c none
 
--- ---- a step by EPSILON
-module _ (t : List ℕ) (run : ProgramGraphRun) (posts : List ℕ) where
-  -- each process has a transition that passes
-  abbrev pub idleReady : Bool
-  idleReady = readyOf t (run .vars) (run .clocks) (run .clocks) (run .places) (run .processes) epsilon posts
+  -- After an accepted plain step each variable that no effect assigns is as before.
+  pub plain-other-variable : (a : ℕ) → (a ≡ epsilon → ⊥) → transitionOf t run a posts word .answer ≡ Done.Accepted
+      → (v : ℕ) → ((e : ℕ) → e < effectCount t a → effectVar t a e ≡ v → ⊥) → getD (transitionOf t run a posts word .run .vars) v blank ≡ getD (run .vars) v blank
+  plain-other-variable a n e v none =
+      ap (λ (x : List Slot). getD x v blank) (its-vars (plain-moved a n e .1)) ∙ effects-other t a _ (effectCount t a) v none
 
-  -- A step by EPSILON whose processes are ready is not refused for an unsatisfied guard.
-  pub idle-ready : idleReady ≡ true → idleOf t run posts .answer ≡ Done.Refused R.UnsatisfiedGuard → ⊥
-  unfolding idleOf
-  idle-ready e = guarded idleReady run _ (λ h. accepted-refused _ h) e
+-- ---- a send
+module _ (t : List ℕ) (run : ProgramGraphRun) (a : ℕ) (posts : List ℕ) (word : ℕ) where
+  -- where a send begins: no value yet, and the word that is handed
+  abbrev pub begun : Effected
+  begun = record { vars = replicate 16 blank; word = word; fits = true }
 
-  -- A step by EPSILON whose processes are not ready is refused for an unsatisfied guard.
-  pub idle-unready : idleReady ≡ false → idleOf t run posts ≡ refusedRun R.UnsatisfiedGuard run
-  unfolding idleOf
-  idle-unready e = stops idleReady _ run _ e
+  -- what an accepted send passed, its message, and the run after it
+  record Said (sent : Sent) : Type 0 where
+    kind : isKind t a 1 ≡ true
+    fit : spokenOf t a (run .vars) word .fits ≡ true
+    message : sent .message ≡ messageOf (spokenOf t a (run .vars) word .vars) (effectCount t a)
+    moved : Moved t run a posts (run .vars) (run .clocks) (sent .run)
 
-  -- an accepted step by EPSILON was ready, and gives this run
-  idle-accepted : idleOf t run posts .answer ≡ Done.Accepted → (idleReady ≡ true) × (idleOf t run posts ≡ acceptedRun (movedTo run posts (run .vars) (run .clocks)))
-  unfolding idleOf
-  idle-accepted h = passes idleReady _ run _ h
+  -- an accepted send
+  send-moved : sendOf t run a posts word .answer ≡ Done.Accepted → Said (sendOf t run a posts word)
+  unfolding sendOf sentOf saidOf
+  send-moved =
+      let P : Sent → Type 0 = λ s. s .answer ≡ Done.Accepted → Said s in
+      rung P (fitsTable t run) (refusedSend R.BadState run) (sentOf t run a posts word) (λ e. refused-accepted _ e)
+      (λ f. rung P _ (refusedSend R.NotSend run) _ (λ e. refused-accepted _ e)
+      (λ n. rung P _ (refusedSend R.MismatchingPostStates run) _ (λ e. refused-accepted _ e)
+      (λ o. rung P _ (refusedSend R.UnsatisfiedGuard run) _ (λ e. refused-accepted _ e)
+      (λ r. rung P _ (refusedSend R.NotSend run) _ (λ e. refused-accepted _ e)
+      (λ k. rung P _ (refusedSend R.Overflow run) _ (λ e. refused-accepted _ e)
+      (λ v e.
+      record { kind = k; fit = v; message = refl; moved = record { fits = f; ready = all-pass t run posts a (run .clocks) .0 r; same = refl } }))))))
 
-  -- After an accepted step by EPSILON the invariants of every occupied location hold.
-  pub idle-holds : idleOf t run posts .answer ≡ Done.Accepted → run .processes ≤ length (run .places)
-      → (p : ℕ) → p < run .processes → placeHolds t (idleOf t run posts .run .places) (idleOf t run posts .run .clocks) p ≡ true
-  idle-holds h m p l =
-      subst (λ (s : Stepped). placeHolds t (s .run .places) (s .run .clocks) p ≡ true) (sym (idle-accepted h .1))
-      (moved-holds t (run .vars) (run .clocks) (run .clocks) (run .places) (run .processes) epsilon posts (idle-accepted h .0) m p l)
+  -- After an accepted send each process is at its post.
+  pub send-moves : sendOf t run a posts word .answer ≡ Done.Accepted → Sized run
+      → (p : ℕ) → p < run .processes → getD (sendOf t run a posts word .run .places) p 0 ≡ getD posts p 0
+  send-moves e = at-posts (send-moved e .moved)
+
+  -- After an accepted send the invariants of every occupied location hold.
+  pub send-holds : sendOf t run a posts word .answer ≡ Done.Accepted → Sized run → Holding t (sendOf t run a posts word .run)
+  send-holds e = holding (send-moved e .moved)
+
+  -- After an accepted send every variable and every clock is as before.
+  pub send-still : sendOf t run a posts word .answer ≡ Done.Accepted
+      → (sendOf t run a posts word .run .vars ≡ run .vars) × (sendOf t run a posts word .run .clocks ≡ run .clocks)
+  send-still e = (its-vars (send-moved e .moved), its-clocks (send-moved e .moved))
+
+  -- The message of an accepted send has a value for each expression: the expression's on the variables as they are.
+  pub send-says : sendOf t run a posts word .answer ≡ Done.Accepted
+      → (sendOf t run a posts word .message .count ≡ effectCount t a)
+      × ((e : ℕ) → e < effectCount t a → turn t a (run .vars) begun e .value ≡ Known (getD (sendOf t run a posts word .message .values) e blank .value))
+  send-says h =
+      let q = send-moved h in
+      let few : effectCount t a ≤ 4
+      = fitting t run (q .moved .fits) .0 .action a (ltb-true _ _ (and-first _ _ (q .kind))) .send (eqb-true _ _ (and-rest _ _ (q .kind))) .few in (
+        ap (λ (m : Message). m .count) (q .message),
+        λ e l. said t a (run .vars) begun (effectCount t a) (q .fit) (omega arith) .1 e l
+            ∙ ap (λ (x : Slot). Known (x .value))
+            (sym (ap (λ (m : Message). getD (m .values) e blank) (q .message) ∙ message-at (spokenOf t a (run .vars) word .vars) (effectCount t a) e (omega arith))),
+      )
+
+-- ---- a receive
+module _ (t : List ℕ) (run : ProgramGraphRun) (a : ℕ) (posts : List ℕ) (m : Message) where
+  -- an accepted receive
+  receive-moved : receiveOf t run a posts m .answer ≡ Done.Accepted
+      → (isKind t a 2 ≡ true) × Moved t run a posts (takenOf t a m (run .vars)) (run .clocks) (receiveOf t run a posts m .run)
+  unfolding receiveOf receivedOf heardOf
+  receive-moved =
+      let P : Stepped → Type 0
+      = λ s. s .answer ≡ Done.Accepted → (isKind t a 2 ≡ true) × Moved t run a posts (takenOf t a m (run .vars)) (run .clocks) (s .run) in
+      rung P (fitsTable t run) (refusedRun R.BadState run) _ (λ e. refused-accepted _ e)
+      (λ f. rung P _ (refusedRun R.NotReceive run) _ (λ e. refused-accepted _ e)
+      (λ n. rung P _ (refusedRun R.MismatchingPostStates run) _ (λ e. refused-accepted _ e)
+      (λ o. rung P _ (refusedRun R.UnsatisfiedGuard run) _ (λ e. refused-accepted _ e)
+      (λ r. rung P _ (refusedRun R.NotReceive run) _ (λ e. refused-accepted _ e)
+      (λ k. rung P _ (refusedRun R.TypeMismatch run) _ (λ e. refused-accepted _ e)
+      (λ v e. (k, record { fits = f; ready = all-pass t run posts a (run .clocks) .0 r; same = refl })))))))
+
+  -- After an accepted receive each process is at its post.
+  pub receive-moves : receiveOf t run a posts m .answer ≡ Done.Accepted → Sized run
+      → (p : ℕ) → p < run .processes → getD (receiveOf t run a posts m .run .places) p 0 ≡ getD posts p 0
+  receive-moves e = at-posts (receive-moved e .1)
+
+  -- After an accepted receive the invariants of every occupied location hold.
+  pub receive-holds : receiveOf t run a posts m .answer ≡ Done.Accepted → Sized run → Holding t (receiveOf t run a posts m .run)
+  receive-holds e = holding (receive-moved e .1)
+
+  -- After an accepted receive every clock is as before.
+  pub receive-clocks : receiveOf t run a posts m .answer ≡ Done.Accepted → receiveOf t run a posts m .run .clocks ≡ run .clocks
+  receive-clocks e = its-clocks (receive-moved e .1)
+
+  -- After an accepted receive each variable that takes no value is as before.
+  pub receive-other-variable : receiveOf t run a posts m .answer ≡ Done.Accepted
+      → (v : ℕ) → ((e : ℕ) → e < effectCount t a → effectVar t a e ≡ v → ⊥) → getD (receiveOf t run a posts m .run .vars) v blank ≡ getD (run .vars) v blank
+  receive-other-variable e v none =
+      ap (λ (x : List Slot). getD x v blank) (its-vars (receive-moved e .1)) ∙ taken-kept t a m (run .vars) (effectCount t a) v none
+
+  -- After an accepted receive each other variable has its value of the message: the later one where it takes two.
+  pub receive-target : receiveOf t run a posts m .answer ≡ Done.Accepted → Sized run
+      → (e : ℕ) → e < effectCount t a → ((k : ℕ) → e < k → k < effectCount t a → effectVar t a k ≡ effectVar t a e → ⊥)
+      → getD (receiveOf t run a posts m .run .vars) (effectVar t a e) blank ≡ getD (m .values) e blank
+  receive-target h z e l last =
+      let moved = receive-moved h in
+      let s : Sound t = fitting t run (moved .1 .fits) .0 in
+      let known : effectVar t a e < variableCount t
+      = s .action a (ltb-true _ _ (and-first _ _ (moved .0))) .receive (eqb-true _ _ (and-rest _ _ (moved .0))) .var e l in
+      ap (λ (x : List Slot). getD x (effectVar t a e) blank) (its-vars (moved .1))
+      ∙ taken-last t a m (run .vars) (effectCount t a) e (effectVar t a e) l refl last (omega (arith, s .counts .variables, z .vars))
 
 -- ---- a wait
 module _ (t : List ℕ) (run : ProgramGraphRun) (delta : ℕ) where
-  -- an accepted wait holds at its end, and gives this run
-  wait-accepted : waitedOf t run delta .answer ≡ Done.Accepted → (waitHolds t run delta ≡ true) × (waitedOf t run delta ≡ acceptedRun (later run delta))
-  unfolding waitedOf
-  wait-accepted h =
-      let s = passes (waitFits run delta) _ run _ h in
-      let u = passes (waitHolds t run delta) _ run _ (ap (λ (x : Stepped). x .answer) (sym (s .1)) ∙ h) in
-      (u .0, s .1 ∙ u .1)
+  -- what an accepted wait passed, and the run after it
+  record Waited (after : ProgramGraphRun) : Type 0 where
+    fits : fitsTable t run ≡ true
+    counted : waitFits run delta ≡ true
+    held : waitHolds t run delta ≡ true
+    same : after ≡ later run delta
+
+  waited : waitOf t run delta .answer ≡ Done.Accepted → Waited (waitOf t run delta .run)
+  unfolding waitOf waitedOf
+  waited =
+      let P : Stepped → Type 0 = λ s. s .answer ≡ Done.Accepted → Waited (s .run) in
+      rung P (fitsTable t run) (refusedRun R.BadState run) _ (λ e. refused-accepted _ e)
+      (λ f. rung P _ (refusedRun R.Overflow run) _ (λ e. refused-accepted _ e)
+      (λ c. rung P _ (refusedRun R.Invariant run) _ (λ e. refused-accepted _ e)
+      (λ h e. record { fits = f; counted = c; held = h; same = refl })))
+
+  -- the invariants of every occupied location hold at the end
+  ends : waitHolds t run delta ≡ true → Holding t (later run delta)
+  unfolding placeHolds
+  ends h p l =
+      invariant-at t (shiftedBelow (run .clocks) delta (run .timers)) (getD (run .places) p 0)
+      (all-at (placeHolds t (run .places) (shiftedBelow (run .clocks) delta (run .timers))) (run .processes) p h l)
+
+  -- On a run that fits its table a wait is accepted exactly when no clock passes 4294967295 and every invariant holds at its end.
+  pub wait-exactly : fitsTable t run ≡ true
+      → (waitOf t run delta .answer ≡ Done.Accepted) ↔ (((c : ℕ) → c < run .timers → getD (run .clocks) c 0 + delta ≤ 4294967295) × Holding t (later run delta))
+  unfolding waitOf waitedOf placeHolds
+  wait-exactly f = (
+    λ e. (λ c l. fits-at (run .clocks) delta (run .timers) c (waited e .counted) l, ends (waited e .held)),
+    λ q. ap (λ (s : Stepped). s .answer)
+        (sym (passed _ f
+        (passed _ (all-from (clockFits (run .clocks) delta) (run .timers) (λ c l. clock-fits (run .clocks) delta c (q .0 c l)))
+        (passed _
+        (all-from (placeHolds t (run .places) (shiftedBelow (run .clocks) delta (run .timers))) (run .processes)
+        (λ p l. invariants-from t (shiftedBelow (run .clocks) delta (run .timers)) (getD (run .places) p 0) (q .1 p l)))
+        refl)))),
+  )
 
   -- An accepted wait moves every clock by the delta.
-  pub wait-moves : waitedOf t run delta .answer ≡ Done.Accepted → run .timers ≤ length (run .clocks)
-      → (i : ℕ) → i < run .timers → getD (waitedOf t run delta .run .clocks) i 0 ≡ getD (run .clocks) i 0 + delta
-  wait-moves h m i l = ap (λ (s : Stepped). getD (s .run .clocks) i 0) (wait-accepted h .1) ∙ shifted-at (run .clocks) delta (run .timers) i l m
+  pub wait-moves : waitOf t run delta .answer ≡ Done.Accepted → Sized run
+      → (c : ℕ) → c < clockCount t → getD (waitOf t run delta .run .clocks) c 0 ≡ getD (run .clocks) c 0 + delta
+  wait-moves e z c l =
+      let w = waited e in
+      ap (λ (r : ProgramGraphRun). getD (r .clocks) c 0) (w .same)
+      ∙ shifted-at (run .clocks) delta (run .timers) c (omega (arith, same-timers t run (fitting t run (w .fits) .1))) (clocks-room t run (w .fits) z)
+
+  -- After an accepted wait every process is where it was and every variable as before.
+  pub wait-still : waitOf t run delta .answer ≡ Done.Accepted → (waitOf t run delta .run .places ≡ run .places) × (waitOf t run delta .run .vars ≡ run .vars)
+  wait-still e = (ap (λ (r : ProgramGraphRun). r .places) (waited e .same), ap (λ (r : ProgramGraphRun). r .vars) (waited e .same))
 
   -- At the end of an accepted wait the invariants of every occupied location hold.
-  pub wait-holds : waitedOf t run delta .answer ≡ Done.Accepted
-      → (p : ℕ) → p < run .processes → placeHolds t (waitedOf t run delta .run .places) (waitedOf t run delta .run .clocks) p ≡ true
-  wait-holds h p l =
-      subst (λ (s : Stepped). placeHolds t (s .run .places) (s .run .clocks) p ≡ true) (sym (wait-accepted h .1))
-      (all-at (placeHolds t (run .places) (shiftedBelow (run .clocks) delta (run .timers))) (run .processes) p (wait-accepted h .0) l)
+  pub wait-holds : waitOf t run delta .answer ≡ Done.Accepted → Holding t (waitOf t run delta .run)
+  wait-holds e = subst (λ (r : ProgramGraphRun). Holding t r) (sym (waited e .same)) (ends (waited e .held))
 
-  -- If the invariants of an occupied location hold before an accepted wait, they hold at every instant of it.
-  pub wait-holds-throughout : waitedOf t run delta .answer ≡ Done.Accepted → run .timers ≤ length (run .clocks) → (p : ℕ) → p < run .processes
-      → ((i : ℕ) → i < invariantCount t (getD (run .places) p 0) → clockOf t (128 + getD (run .places) p 0) i < run .timers)
-      → placeHolds t (run .places) (run .clocks) p ≡ true
-      → (d : ℕ) → d ≤ delta → placeHolds t (run .places) (shiftedBelow (run .clocks) d (run .timers)) p ≡ true
-  unfolding placeHolds
-  wait-holds-throughout h m p l known start d e =
+  -- If they hold before an accepted wait, they hold at every instant of it.
+  pub wait-holds-throughout : waitOf t run delta .answer ≡ Done.Accepted → Sized run → Holding t run → (d : ℕ) → d ≤ delta → Holding t (later run d)
+  wait-holds-throughout e z start d m p l i k =
+      let w = waited e in
+      let formed = fitting t run (w .fits) in
       let place : ℕ = getD (run .places) p 0 in
-      let clock : ℕ → ℕ = λ i. clockOf t (128 + place) i in
-      let time : ℕ → ℕ = λ i. getD (run .clocks) (clock i) 0 in
-      let moved : (x i : ℕ) → i < invariantCount t place → getD (shiftedBelow (run .clocks) x (run .timers)) (clock i) 0 ≡ time i + x
-      = λ x i k. shifted-at (run .clocks) x (run .timers) (clock i) (known i k) m in
-      let end : invariantsHold t (shiftedBelow (run .clocks) delta (run .timers)) place ≡ true
-      = all-at (placeHolds t (run .places) (shiftedBelow (run .clocks) delta (run .timers))) (run .processes) p (wait-accepted h .0) l in
-      invariants-from t (shiftedBelow (run .clocks) d (run .timers)) place
-      (λ i k.
-      subst (λ (x : ℕ). inRange (limitRange t (128 + place) i) x ≡ true) (sym (moved d i k))
-      (between (limitRange t (128 + place) i) (time i) (time i + d) (time i + delta) (omega arith) (omega arith)
-      (invariant-at t (run .clocks) place start i k)
-      (subst (λ (x : ℕ). inRange (limitRange t (128 + place) i) x ≡ true) (moved delta i k)
-      (invariant-at t (shiftedBelow (run .clocks) delta (run .timers)) place end i k))))
+      let clock : ℕ = clockOf t (128 + place) i in
+      let time : ℕ = getD (run .clocks) clock 0 in
+      let known : clock < run .timers
+      = omega (arith, same-timers t run (formed .1), formed .0 .invariants place (places-below t run (formed .1) p l) .clock i k) in
+      let moved : (x : ℕ) → getD (shiftedBelow (run .clocks) x (run .timers)) clock 0 ≡ time + x
+      = λ x. shifted-at (run .clocks) x (run .timers) clock known (clocks-room t run (w .fits) z) in
+      subst (λ (x : ℕ). inRange (limitRange t (128 + place) i) x ≡ true) (sym (moved d))
+      (between (limitRange t (128 + place) i) time (time + d) (time + delta) (omega arith) (omega arith)
+      (start p l i k)
+      (subst (λ (x : ℕ). inRange (limitRange t (128 + place) i) x ≡ true) (moved delta) (ends (w .held) p l i k)))

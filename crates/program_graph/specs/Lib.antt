@@ -1,3 +1,8 @@
 pub mod Building
 pub mod Chains
 pub mod Running
+pub mod Messaging
+pub mod Transitions
+pub mod Facts
+pub mod RunChains
+pub mod Marked

@@ -16,11 +16,17 @@ use Rattle.graph_tables.specs.declared.refusals.Refusal.{Refusal}
 use Rattle.graph_tables.specs.declared.refusals.Refusal.the-variants as R
 use Rattle.graph_tables.specs.Words.{variableCount, clockCount, locationCount, actionCount, processCount, kindAt, valueAt, placeAt, actionKind, epsilon}
 use Rattle.graph_tables.specs.Formed.{wellFormed}
+use Rattle.graph_steps.specs.Waiting.{waitingOf}
 use Rattle.graph_steps.specs.Steps.{readyOf, clocksAfter, effectedOf, placedBelow, postKnown, clockFits, shiftedBelow, placeHolds}
+use Rattle.graph_tables.specs.declared.answers.Placed.{Placed}
+use Rattle.graph_tables.specs.declared.answers.Placed.the-variants as Placed
 use Rattle.graph_tables.specs.declared.answers.Done.{Done}
 use Rattle.graph_tables.specs.declared.answers.Done.the-variants as Done
 use Rattle.program_graph.specs.declared.run.ProgramGraphRun.{ProgramGraphRun}
 use Rattle.program_graph.specs.declared.run.Stepped.{Stepped}
+use Rattle.program_graph.specs.declared.run.States.{States}
+use Rattle.program_graph.specs.declared.run.Value.{Value}
+use Rattle.program_graph.specs.declared.run.Value.the-variants as Value
 use Rattle.program_graph.specs.declared.run.Held.{Held}
 use Rattle.program_graph.specs.declared.run.Held.the-variants as Held
 
@@ -63,10 +69,14 @@ movedTo run posts vars clocks =
       timers = run .timers;
     }
 
--- for EPSILON 8; it resets nothing
+-- ready by the clocks as they are: EPSILON and the send and receive calls, whatever their action, reset nothing
+abbrev pub readyStill : List ℕ → ProgramGraphRun → ℕ → List ℕ → Bool
+readyStill t run a posts = readyOf t (run .vars) (run .clocks) (run .clocks) (run .places) (run .processes) a posts
+
+-- for EPSILON 8
 unfoldable pub idleOf : List ℕ → ProgramGraphRun → List ℕ → Stepped
 idleOf t run posts =
-    unless (readyOf t (run .vars) (run .clocks) (run .clocks) (run .places) (run .processes) epsilon posts) (refusedRun R.UnsatisfiedGuard run)
+    unless (readyStill t run epsilon posts) (refusedRun R.UnsatisfiedGuard run)
     (acceptedRun (movedTo run posts (run .vars) (run .clocks)))
 
 -- 8, 26
@@ -124,6 +134,12 @@ waitOf t run delta = unless (fitsTable t run) (refusedRun R.BadState run) (waite
 unfoldable pub canWaitOf : List ℕ → ProgramGraphRun → ℕ → Held
 canWaitOf t run delta = unless (fitsTable t run) (Held.Refused R.BadState) (Held.Is (waitFits run delta and waitHolds t run delta))
 
+-- `is_waiting`: `can_wait(1)`, and some transition will be open later
+unfoldable pub isWaitingOf : List ℕ → ProgramGraphRun → Held
+isWaitingOf t run =
+    unless (fitsTable t run) (Held.Refused R.BadState)
+    (Held.Is ((waitFits run 1 and waitHolds t run 1) and waitingOf t (run .clocks) (run .places) (run .processes)))
+
 -- ---- a fresh run: each process where it starts, variables at their values, clocks at 0
 unfoldable pub startPlaces : List ℕ → ℕ → List ℕ
 startPlaces t zero = replicate 4 0
@@ -153,3 +169,19 @@ noRun = record { places = replicate 4 0; vars = replicate 16 blank; clocks = rep
 
 unfoldable pub newRunOf : List ℕ → Stepped
 newRunOf t = unless (wellFormed t false) (refusedRun R.BadState noRun) (acceptedRun (freshRun t))
+
+-- ---- reading a run: where its processes are, the value of a variable (4), the time of a clock (2)
+unfoldable pub statesOf : List ℕ → ProgramGraphRun → States
+statesOf t run =
+    unless (fitsTable t run) (record { answer = Done.Refused R.BadState; places = replicate 4 0; count = 0 })
+    (record { answer = Done.Accepted; places = run .places; count = run .processes })
+
+unfoldable pub valueIn : List ℕ → ProgramGraphRun → ℕ → Value
+valueIn t run v =
+    unless (fitsTable t run) (Value.Refused R.BadState)
+    (unless (ltb v (variableCount t)) (Value.Refused R.MissingVar) (Value.Is (getD (run .vars) v blank .value)))
+
+unfoldable pub timeOf : List ℕ → ProgramGraphRun → ℕ → Placed
+timeOf t run c =
+    unless (fitsTable t run) (Placed.Refused R.BadState)
+    (unless (ltb c (clockCount t)) (Placed.Refused R.MissingClock) (Placed.At (getD (run .clocks) c 0)))

@@ -1,5 +1,7 @@
 // For the crates above: each function asks for a table that is sound and a run that fits it.
 pub mod fits;
 pub mod fresh;
+pub mod listing;
+pub mod messages;
 pub mod steps;
 pub mod waits;

@@ -2,3 +2,4 @@
 pub mod builder;
 pub mod inner;
 pub mod run;
+pub mod transitions;

@@ -1,16 +1,23 @@
 // A run of one graph. It is handed in whole and comes back whole; the table that it runs on is lent beside it.
 use crate::inner::fits;
 use crate::inner::fresh;
+use crate::inner::messages;
 use crate::inner::steps;
 use crate::inner::waits;
 use grammar::values::Slot;
+use grammar::values::Val;
 use graph_tables::answers::Done;
+use graph_tables::answers::Placed;
 use graph_tables::formed;
+use graph_tables::handed::Message;
 use graph_tables::ids::Action;
+use graph_tables::ids::Clock;
+use graph_tables::ids::Var;
+use graph_tables::inner;
 use graph_tables::refusals::Refusal;
 ghost use mathlib.Core.Path.{_≡_};
-ghost use Rattle.laws.specs.Below.{_and_};
-ghost use Rattle.program_graph.specs.Running.{fitsTable, transitionOf, waitOf, canWaitOf, newRunOf};
+ghost use Rattle.program_graph.specs.Running.{fitsTable, transitionOf, waitOf, canWaitOf, isWaitingOf, newRunOf, statesOf, valueIn, timeOf};
+ghost use Rattle.program_graph.specs.Messaging.{sendOf, receiveOf};
 
 pub struct ProgramGraphRun {
     pub places: [u32; 4],
@@ -25,6 +32,25 @@ pub struct ProgramGraphRun {
 pub struct Stepped {
     pub answer: Done,
     pub run: ProgramGraphRun,
+}
+
+// What a send answers, its values if it is accepted, and the run after it.
+pub struct Sent {
+    pub answer: Done,
+    pub message: Message,
+    pub run: ProgramGraphRun,
+}
+
+// Where the processes are, if they are told.
+pub struct States {
+    pub answer: Done,
+    pub places: [u32; 4],
+    pub count: usize,
+}
+
+pub enum Value {
+    Is(Val),
+    Refused(Refusal),
 }
 
 // Whether something holds.
@@ -81,5 +107,86 @@ impl ProgramGraphRun {
             return Held::Refused(Refusal::BadState);
         }
         Held::Is(waits::can_wait_on(self, t, delta))
+    }
+
+    // The values that a communication's expressions have. Nothing is reset.
+    pub fn send(self, t: &[u64], action: Action, posts: &[u32], word: u64) -> Sent
+        ensures { λ r. ⌜ r ≡ sendOf (now (t .entry)) self (action .0) (now (posts .entry)) word ⌝ }
+    {
+        if !fits_table(t, self) {
+            return messages::refused_send(self, Refusal::BadState);
+        }
+        messages::send_on(self, t, action.0, posts, word)
+    }
+
+    // The variables of a communication take the values. Nothing is reset.
+    pub fn receive(self, t: &[u64], action: Action, posts: &[u32], message: Message) -> Stepped
+        ensures { λ r. ⌜ r ≡ receiveOf (now (t .entry)) self (action .0) (now (posts .entry)) message ⌝ }
+    {
+        if !fits_table(t, self) {
+            return steps::refused(self, Refusal::BadState);
+        }
+        messages::receive_on(self, t, action.0, posts, message)
+    }
+
+    // Whether some transition will be open later.
+    pub fn is_waiting(self, t: &[u64]) -> Held
+        ensures { λ r. ⌜ r ≡ isWaitingOf (now (t .entry)) self ⌝ }
+    {
+        if !fits_table(t, self) {
+            return Held::Refused(Refusal::BadState);
+        }
+        Held::Is(waits::is_waiting_on(self, t))
+    }
+
+    // Where the processes are.
+    pub fn current_states(self, t: &[u64]) -> States
+        ensures { λ r. ⌜ r ≡ statesOf (now (t .entry)) self ⌝ }
+    {
+        if !fits_table(t, self) {
+            return States {
+                answer: Done::Refused(Refusal::BadState),
+                places: [0; 4],
+                count: 0,
+            };
+        }
+        let places = self.places;
+        States {
+            answer: Done::Accepted,
+            places,
+            count: self.processes,
+        }
+    }
+
+    // The value of a variable.
+    pub fn value(self, t: &[u64], var: Var) -> Value
+        ensures { λ r. ⌜ r ≡ valueIn (now (t .entry)) self (var .0) ⌝ }
+    {
+        if !fits_table(t, self) {
+            return Value::Refused(Refusal::BadState);
+        }
+        let v = var.0 as usize;
+        if inner::variable_count(t) <= v {
+            return Value::Refused(Refusal::MissingVar);
+        }
+        let vars = self.vars;
+        let slot = vars[v];
+        let value = slot.value;
+        Value::Is(value)
+    }
+
+    // The time of a clock.
+    pub fn time(self, t: &[u64], clock: Clock) -> Placed
+        ensures { λ r. ⌜ r ≡ timeOf (now (t .entry)) self (clock .0) ⌝ }
+    {
+        if !fits_table(t, self) {
+            return Placed::Refused(Refusal::BadState);
+        }
+        let c = clock.0 as usize;
+        if inner::clock_count(t) <= c {
+            return Placed::Refused(Refusal::MissingClock);
+        }
+        let clocks = self.clocks;
+        Placed::At(clocks[c])
     }
 }

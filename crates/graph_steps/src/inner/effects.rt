@@ -32,7 +32,7 @@ pub fn clocks_after(t: &[u64], a: usize, clocks: [u32; 8]) -> [u32; 8]
 }
 
 // What an evaluation makes of the variables.
-fn assign(s: Effected, v: usize, value: Evaluated, rest: u64) -> Effected
+pub fn assign(s: Effected, v: usize, value: Evaluated, rest: u64) -> Effected
     requires { ⌜ v < 16 ⌝ }
     ensures { λ r. ⌜ r ≡ assigned s v value rest ⌝ }
 {

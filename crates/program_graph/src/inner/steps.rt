@@ -15,7 +15,7 @@ ghost use lib.ListN.{length};
 ghost use Rattle.laws.specs.Below.{_and_};
 ghost use Rattle.graph_tables.specs.Words.{actionCount, actionKind};
 ghost use Rattle.graph_tables.specs.Sound.{Sound};
-ghost use Rattle.program_graph.specs.Running.{refusedRun, acceptedRun, runFormed, movedTo, idleOf, plainOf, actedOf, stepOf};
+ghost use Rattle.program_graph.specs.Running.{refusedRun, acceptedRun, runFormed, movedTo, readyStill, idleOf, plainOf, actedOf, stepOf};
 
 pub fn refused(run: ProgramGraphRun, r: Refusal) -> Stepped
     ensures { λ x. ⌜ x ≡ refusedRun r run ⌝ }
@@ -35,7 +35,7 @@ pub fn accepted(run: ProgramGraphRun) -> Stepped
     }
 }
 
-fn moved_to(
+pub fn moved_to(
     run: ProgramGraphRun,
     posts: &[u32],
     vars: [Slot; 16],
@@ -57,26 +57,36 @@ fn moved_to(
     }
 }
 
-// A step by the reserved action.
-fn idle(run: ProgramGraphRun, t: &[u64], posts: &[u32]) -> Stepped
+// Every process has a candidate that passes, with no clock reset.
+pub fn ready_still(run: ProgramGraphRun, t: &[u64], action: u32, posts: &[u32]) -> bool
     requires { ⌜ Sound (now t) × (runFormed (now t) run ≡ true) × (length (now posts) ≡ run .processes) ⌝ }
-    ensures { λ r. ⌜ r ≡ idleOf (now (t .entry)) run (now (posts .entry)) ⌝ }
+    ensures { λ r. ⌜ r ≡ readyStill (now (t .entry)) run action (now (posts .entry)) ⌝ }
 {
     let vars = run.vars;
     let clocks = run.clocks;
     let places = run.places;
-    if !candidates::ready(
+    candidates::ready(
         t,
         vars,
         clocks,
         clocks,
         places,
         run.processes,
-        Action::EPSILON.0,
+        action,
         posts,
-    ) {
+    )
+}
+
+// A step by the reserved action.
+fn idle(run: ProgramGraphRun, t: &[u64], posts: &[u32]) -> Stepped
+    requires { ⌜ Sound (now t) × (runFormed (now t) run ≡ true) × (length (now posts) ≡ run .processes) ⌝ }
+    ensures { λ r. ⌜ r ≡ idleOf (now (t .entry)) run (now (posts .entry)) ⌝ }
+{
+    if !ready_still(run, t, Action::EPSILON.0, posts) {
         return refused(run, Refusal::UnsatisfiedGuard);
     }
+    let vars = run.vars;
+    let clocks = run.clocks;
     accepted(moved_to(run, posts, vars, clocks))
 }
 

@@ -2,6 +2,7 @@
 use crate::inner::steps;
 use crate::run::ProgramGraphRun;
 use crate::run::Stepped;
+use graph_steps::inner::waiting;
 use graph_steps::inner::waits;
 use graph_tables::refusals::Refusal;
 ghost use mathlib.Core.Path.{_≡_};
@@ -9,6 +10,7 @@ ghost use mathlib.Core.Bool.{true};
 ghost use Rattle.laws.specs.Below.{_and_, allBelow};
 ghost use Rattle.graph_tables.specs.Sound.{Sound};
 ghost use Rattle.graph_steps.specs.Steps.{placeHolds};
+ghost use Rattle.graph_steps.specs.Waiting.{waitingOf};
 ghost use Rattle.program_graph.specs.Running.{runFormed, waitFits, waitHolds, waitedOf};
 
 fn wait_holds(run: ProgramGraphRun, t: &[u64], clocks: [u32; 8]) -> bool
@@ -25,11 +27,11 @@ pub fn wait_on(run: ProgramGraphRun, t: &[u64], delta: u32) -> Stepped
     ensures { λ r. ⌜ r ≡ waitedOf (now (t .entry)) run delta ⌝ }
 {
     let before = run.clocks;
-    let n = run.timers;
-    if !waits::clocks_fit(before, n, delta) {
+    let timers = run.timers;
+    if !waits::clocks_fit(before, timers, delta) {
         return steps::refused(run, Refusal::Overflow);
     }
-    let clocks = waits::shifted(before, n, delta);
+    let clocks = waits::shifted(before, timers, delta);
     if !wait_holds(run, t, clocks) {
         return steps::refused(run, Refusal::Invariant);
     }
@@ -41,7 +43,7 @@ pub fn wait_on(run: ProgramGraphRun, t: &[u64], delta: u32) -> Stepped
         clocks,
         processes: run.processes,
         variables: run.variables,
-        timers: n,
+        timers,
     })
 }
 
@@ -55,4 +57,17 @@ pub fn can_wait_on(run: ProgramGraphRun, t: &[u64], delta: u32) -> bool
         return false;
     }
     wait_holds(run, t, waits::shifted(before, n, delta))
+}
+
+// Whether some transition will be open later.
+pub fn is_waiting_on(run: ProgramGraphRun, t: &[u64]) -> bool
+    requires { ⌜ Sound (now t) × (runFormed (now t) run ≡ true) ⌝ }
+    ensures { λ r. ⌜ r ≡ ((waitFits run 1 and waitHolds (now (t .entry)) run 1) and waitingOf (now (t .entry)) (run .clocks) (run .places) (run .processes)) ⌝ }
+{
+    if !can_wait_on(run, t, 1) {
+        return false;
+    }
+    let clocks = run.clocks;
+    let places = run.places;
+    waiting::waiting(t, clocks, places, run.processes)
 }

@@ -1,9 +1,9 @@
 use mathlib.Core.Path.{_∙_}
-use native.Mathlib.Omega.{arith}
 use Rattle.laws.proofs.BelowLaws.{and-yes, and-no}
 use Rattle.laws.proofs.Tests.{held, failed}
 use Rattle.graph_steps.specs.Steps.{passesOf}
 use borrow.Author.Needs.{needs}
+use Rattle.graph_steps.proofs.LimitLaws.{limits-of-transition}
 use Rattle.graph_steps.proofs.inner.candidates.passes.Statement.{statement}
 use Rattle.graph_steps.proofs.inner.candidates.passes.Tie as tie
 
@@ -14,7 +14,7 @@ returns c = and-no _ (failed (c .before .guard-holds .ensures) (c .if1 .taken))
 limits-hold-requires : tie.Need-limits-hold-requires
 limits-hold-requires c κs =
     let s = c .before .before .before .before in
-    rw (c .limit-count .ensures) (s .pre .0, omega (arith, s .pre .0 .counts .transitions), s .pre .0 .transition _ (s .pre .1) .limits)
+    rw (c .limit-count .ensures) (limits-of-transition (s .pre .0) (s .pre .1))
 
 returns-2 : tie.Need-returns-2
 unfolding passesOf

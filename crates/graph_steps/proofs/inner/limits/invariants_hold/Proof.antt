@@ -1,14 +1,14 @@
 use mathlib.Core.Path.{_∙_}
-use native.Mathlib.Omega.{arith}
 use Rattle.graph_steps.specs.Steps.{invariantsHold}
 use borrow.Author.Needs.{needs}
+use Rattle.graph_steps.proofs.LimitLaws.{invariants-of-location}
 use Rattle.graph_steps.proofs.inner.limits.invariants_hold.Statement.{statement}
 use Rattle.graph_steps.proofs.inner.limits.invariants_hold.Tie as tie
 
 limits-hold-requires : tie.Need-limits-hold-requires
 limits-hold-requires c κs =
     let s = c .before .before in
-    rw (c .invariant-count .ensures) (s .pre .0, omega (arith, s .pre .0 .counts .locations), s .pre .0 .invariants _ (s .pre .1))
+    rw (c .invariant-count .ensures) (invariants-of-location (s .pre .0) (s .pre .1))
 
 returns : tie.Need-returns
 unfolding invariantsHold

@@ -7,6 +7,7 @@ use Rattle.laws.specs.Below.{allBelow}
 use Rattle.laws.proofs.BelowLaws.{all-none, all-more, all-fails, all-done}
 use Rattle.laws.proofs.Tests.{held, failed}
 use Rattle.graph_steps.specs.Steps.{limitHolds, limitsHold}
+use Rattle.graph_steps.proofs.LimitLaws.{limit-known}
 use Rattle.graph_steps.proofs.inner.limits.limits_hold.Statement.{statement}
 use Rattle.graph_steps.proofs.inner.limits.limits_hold.Tie as tie
 
@@ -20,11 +21,7 @@ loop-holds : tie.Need-loop-holds Inv-loop μ-loop
 loop-holds c = (search needs, all-none _)
 
 limit-holds-requires : tie.Need-limit-holds-requires Inv-loop μ-loop
-limit-holds-requires c κs =
-    let s = c .before .before .before in
-    let limits = s .pre .2 in
-    let i = c .before .loop .i in
-    (s .pre .0 .words, s .pre .1, omega (arith, limits .few), limits .fit i (omega arith), omega (arith, limits .clock i (omega arith), s .pre .0 .counts .clocks))
+limit-holds-requires c κs = let s = c .before .before .before in limit-known (s .pre .0) (s .pre .1) (s .pre .2) (omega arith)
 
 returns : tie.Need-returns Inv-loop μ-loop
 unfolding limitsHold

@@ -1,0 +1,78 @@
+-- What the theorems on a run speak of.
+use Prim.Native.Nat.{ℕ, _+_, _<_}
+use mathlib.Core.Path.{_≡_}
+use mathlib.Core.Bool.{true}
+use mathlib.Core.List.{List}
+use lib.ListN.{length, getD}
+use Rattle.time.specs.Time.{inRange}
+use Rattle.grammar.specs.declared.values.Slot.{Slot}
+use Rattle.graph_tables.specs.declared.refusals.Refusal.{Refusal}
+use Rattle.graph_tables.specs.declared.refusals.Refusal.the-variants as R
+use Rattle.graph_tables.specs.declared.answers.Done.{Done}
+use Rattle.graph_tables.specs.declared.answers.Done.the-variants as Done
+use Rattle.graph_tables.specs.Words.{locationCount, actionCount, transitionCount, invariantCount, actionKind, keyOf, limitCount, preOf, actionOf, postOf, clockOf, limitRange, epsilon}
+use Rattle.graph_steps.specs.Steps.{guardHolds}
+use Rattle.program_graph.specs.Running.{fitsTable}
+use Rattle.program_graph.specs.declared.run.ProgramGraphRun.{ProgramGraphRun}
+
+-- the arrays of a run have their sizes, as every run that is handed in has
+pub record Sized (run : ProgramGraphRun) : Type 0 where
+  pub places : length (run .places) ≡ 4
+  pub vars : length (run .vars) ≡ 16
+  pub clocks : length (run .clocks) ≡ 8
+
+-- an answer is not this refusal
+abbrev pub Not : Refusal → Done → Type 0
+Not q d = d ≡ Done.Refused q → ⊥
+
+-- ---- invariants
+-- each invariant of location l holds on the clocks
+abbrev pub InvariantsAt : List ℕ → List ℕ → ℕ → Type 0
+InvariantsAt t clocks l = (i : ℕ) → i < invariantCount t l → inRange (limitRange t (128 + l) i) (getD clocks (clockOf t (128 + l) i) 0) ≡ true
+
+-- each invariant of every occupied location holds
+abbrev pub Holding : List ℕ → ProgramGraphRun → Type 0
+Holding t run = (p : ℕ) → p < run .processes → InvariantsAt t (run .clocks) (getD (run .places) p 0)
+
+-- ---- readiness
+-- transition k leads from `pre` by the action to `post` and passes
+pub record Passing (t : List ℕ) (vars : List Slot) (clocks after : List ℕ) (pre action post k : ℕ) : Type 0 where
+  -- it is one of the table's
+  pub known : k < transitionCount t
+  -- it leads from `pre`, by the action, to `post`
+  pub from : preOf (keyOf t k) ≡ pre
+  pub by : actionOf (keyOf t k) ≡ action
+  pub to : postOf (keyOf t k) ≡ post
+  -- its guard holds on the variables, and each of its limits on the clocks
+  pub guard : guardHolds t vars k ≡ true
+  pub limits : (i : ℕ) → i < limitCount t k → inRange (limitRange t k i) (getD clocks (clockOf t k i) 0) ≡ true
+  -- each invariant of `post` holds on the clocks after
+  pub invariants : InvariantsAt t after post
+
+-- each process of a run has a transition from its place, by the action, to its post that passes
+abbrev pub AllPass : List ℕ → ProgramGraphRun → ℕ → List ℕ → List ℕ → Type 0
+AllPass t run a posts after =
+    (p : ℕ) → p < run .processes → (k : ℕ) × Passing t (run .vars) (run .clocks) after (getD (run .places) p 0) a (getD posts p 0) k
+
+-- a call's answer is not that a guard is unsatisfied (8): it gets past its guards
+abbrev pub PastGuards : Done → Type 0
+PastGuards d = Not R.UnsatisfiedGuard d
+
+-- ---- what is not refused before the guards
+-- a step that is not refused for its run or its posts: with 32, 7 or 3
+pub record StepAsked (t : List ℕ) (run : ProgramGraphRun) (posts : List ℕ) : Type 0 where
+  pub fits : fitsTable t run ≡ true
+  pub one-each : length posts ≡ run .processes
+  pub known : (p : ℕ) → p < length posts → getD posts p 0 < locationCount t
+
+-- nor for its action: with 1 or 13
+pub record PlainAsked (t : List ℕ) (run : ProgramGraphRun) (a : ℕ) (posts : List ℕ) : Type 0 where
+  pub step : StepAsked t run posts
+  pub action : a < actionCount t
+  pub plain : actionKind t a ≡ 0
+
+-- a send or a receive that is not refused for its run, for EPSILON, or for its posts: with 32, 14 or 15, or 7
+pub record MessageAsked (t : List ℕ) (run : ProgramGraphRun) (a : ℕ) (posts : List ℕ) : Type 0 where
+  pub fits : fitsTable t run ≡ true
+  pub named : a ≡ epsilon → ⊥
+  pub one-each : length posts ≡ run .processes
