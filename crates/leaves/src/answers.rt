@@ -7,99 +7,17 @@ use grammar::typing::Typed;
 use grammar::values::Slot;
 use grammar::values::Type;
 use grammar::values::Val;
-use text::bounds;
-use text::bounds::Limit;
+use text::answers;
 use text::items;
 use text::items::Expression;
+use text::lists;
 use text::numbers;
 use text::numbers::Number;
-use text::numbers::Small;
 use text::output;
+use text::ranges;
 use text::tokens;
 use text::values;
 use text::values::Value;
-use time::TimeRange;
-
-// Values, and where the token after them starts.
-struct Values {
-    slots: [Slot; 16],
-    next: usize,
-}
-
-// The values from a place on, 16 at most, up to a token that is none. The slots past them are false.
-fn read_values(line: &[u8], at: usize) -> Values {
-    let mut slots = [Slot {
-        value: Val::Boolean(false),
-    }; 16];
-    let mut here = at;
-    for k in 0usize..16 {
-        let Value::Is(v) = values::read_value(tokens::token(line, here)) else {
-            return Values { slots, next: here };
-        };
-        slots[k] = Slot { value: v };
-        here = tokens::next(line, here);
-    }
-    Values { slots, next: here }
-}
-
-pub fn bad(out: &mut [u8]) -> usize {
-    output::put_all(out, 0, b"bad line\n")
-}
-
-fn end(out: &mut [u8], at: usize) -> usize {
-    output::put(out, at, b'\n')
-}
-
-fn yes_or_no(out: &mut [u8], yes: bool) -> usize {
-    if yes {
-        return output::put_all(out, 0, b"yes\n");
-    }
-    output::put_all(out, 0, b"no\n")
-}
-
-fn put_range(out: &mut [u8], r: TimeRange) -> usize {
-    let a = output::put_all(out, 0, b"ok ");
-    let b = output::put_bound(out, a, r.start_bound());
-    let c = output::put(out, b, b' ');
-    let d = output::put_bound(out, c, r.end_bound());
-    end(out, d)
-}
-
-// has N, or shift N
-fn asked_of_range(line: &[u8], at: usize, r: TimeRange, out: &mut [u8]) -> usize {
-    let verb = tokens::token(line, at);
-    let here = tokens::next(line, at);
-    let Small::Is(n) = numbers::read_small(tokens::token(line, here)) else {
-        return bad(out);
-    };
-    if !tokens::ended(line, tokens::next(line, here)) {
-        return bad(out);
-    }
-    if tokens::is(verb, b"has") {
-        return yes_or_no(out, r.contains(n));
-    }
-    if tokens::is(verb, b"shift") {
-        return put_range(out, r.shift(n));
-    }
-    bad(out)
-}
-
-// range LO HI ..
-fn range(line: &[u8], at: usize, out: &mut [u8]) -> usize {
-    let Limit::Is(lower) = bounds::read_limit(tokens::token(line, at)) else {
-        return bad(out);
-    };
-    let here = tokens::next(line, at);
-    let Limit::Is(upper) = bounds::read_limit(tokens::token(line, here)) else {
-        return bad(out);
-    };
-    asked_of_range(
-        line,
-        tokens::next(line, here),
-        TimeRange::new(lower, upper),
-        out,
-    )
-}
 
 fn put_type(out: &mut [u8], t: Type) -> usize {
     match t {
@@ -112,9 +30,7 @@ fn put_typed(out: &mut [u8], t: Typed) -> usize {
     match t {
         Typed::Known(k) => put_type(out, k),
         Typed::IllTyped | Typed::TableFull | Typed::TooDeep(_) => {
-            let here = output::put_all(out, 0, b"refused ");
-            let last = output::put_number(out, here, t.number() as u64);
-            end(out, last)
+            answers::refused(out, t.number())
         }
     }
 }
@@ -144,10 +60,10 @@ fn kinds(token: &[u8], words: &mut [u64]) -> bool {
 fn type_of(line: &[u8], at: usize, kinds: &[u64], out: &mut [u8]) -> usize {
     let mut words = [0u64; 100];
     let Expression::Is { count, next } = items::read_expression(line, at, &mut words) else {
-        return bad(out);
+        return answers::bad(out);
     };
     if !tokens::ended(line, next) {
-        return bad(out);
+        return answers::bad(out);
     }
     put_typed(out, typing::type_of(items::part(&words, count), kinds))
 }
@@ -161,10 +77,10 @@ fn kind_of(line: &[u8], at: usize, out: &mut [u8]) -> usize {
         return type_of(line, next, items::part(&words, 0), out);
     }
     if token.len() == 0 {
-        return bad(out);
+        return answers::bad(out);
     }
     if !kinds(token, &mut words) {
-        return bad(out);
+        return answers::bad(out);
     }
     type_of(line, next, items::part(&words, token.len()), out)
 }
@@ -173,10 +89,10 @@ fn kind_of(line: &[u8], at: usize, out: &mut [u8]) -> usize {
 fn draws_of(line: &[u8], at: usize, out: &mut [u8]) -> usize {
     let mut words = [0u64; 100];
     let Expression::Is { count, next } = items::read_expression(line, at, &mut words) else {
-        return bad(out);
+        return answers::bad(out);
     };
     if !tokens::ended(line, next) {
-        return bad(out);
+        return answers::bad(out);
     }
     let part = items::part(&words, count);
     let here = output::put_number(out, 0, draws::count_draws(part) as u64);
@@ -196,7 +112,7 @@ fn put_evaluated(out: &mut [u8], v: Evaluated) -> usize {
 // W EXPR, over the values
 fn value_over(line: &[u8], at: usize, slots: [Slot; 16], out: &mut [u8]) -> usize {
     let Number::Is(word) = numbers::read_wide(tokens::token(line, at)) else {
-        return bad(out);
+        return answers::bad(out);
     };
     let mut words = [0u64; 100];
     let Expression::Is { count, next } = items::read_expression(
@@ -204,28 +120,28 @@ fn value_over(line: &[u8], at: usize, slots: [Slot; 16], out: &mut [u8]) -> usiz
         tokens::next(line, at),
         &mut words,
     ) else {
-        return bad(out);
+        return answers::bad(out);
     };
     if !tokens::ended(line, next) {
-        return bad(out);
+        return answers::bad(out);
     }
     let e = evaluation::evaluate(items::part(&words, count), slots, word);
     let v = e.value;
     let a = put_evaluated(out, v);
     let b = output::put(out, a, b' ');
     let c = output::put_number(out, b, e.rest);
-    end(out, c)
+    answers::end(out, c)
 }
 
 // value ( VALUE.. ) W EXPR
 fn value_of(line: &[u8], at: usize, out: &mut [u8]) -> usize {
     if !tokens::is(tokens::token(line, at), b"(") {
-        return bad(out);
+        return answers::bad(out);
     }
-    let list = read_values(line, tokens::next(line, at));
+    let list = lists::read_values(line, tokens::next(line, at));
     let last = list.next;
     if !tokens::is(tokens::token(line, last), b")") {
-        return bad(out);
+        return answers::bad(out);
     }
     let slots = list.slots;
     value_over(line, tokens::next(line, last), slots, out)
@@ -234,35 +150,35 @@ fn value_of(line: &[u8], at: usize, out: &mut [u8]) -> usize {
 // same VALUE VALUE
 fn same(line: &[u8], at: usize, out: &mut [u8]) -> usize {
     let Value::Is(a) = values::read_value(tokens::token(line, at)) else {
-        return bad(out);
+        return answers::bad(out);
     };
     let here = tokens::next(line, at);
     let Value::Is(b) = values::read_value(tokens::token(line, here)) else {
-        return bad(out);
+        return answers::bad(out);
     };
     if !tokens::ended(line, tokens::next(line, here)) {
-        return bad(out);
+        return answers::bad(out);
     }
-    yes_or_no(out, a.equals(b))
+    answers::yes_or_no(out, a.equals(b))
 }
 
 // word ITEM
 fn word(line: &[u8], at: usize, out: &mut [u8]) -> usize {
     let Number::Is(w) = items::read_word(tokens::token(line, at)) else {
-        return bad(out);
+        return answers::bad(out);
     };
     if !tokens::ended(line, tokens::next(line, at)) {
-        return bad(out);
+        return answers::bad(out);
     }
     let last = output::put_number(out, 0, w);
-    end(out, last)
+    answers::end(out, last)
 }
 
 pub fn answer(line: &[u8], out: &mut [u8]) -> usize {
     let name = tokens::token(line, 0);
     let at = tokens::next(line, 0);
     if tokens::is(name, b"range") {
-        return range(line, at, out);
+        return ranges::answer(line, at, out);
     }
     if tokens::is(name, b"kind") {
         return kind_of(line, at, out);
@@ -279,5 +195,5 @@ pub fn answer(line: &[u8], out: &mut [u8]) -> usize {
     if tokens::is(name, b"word") {
         return word(line, at, out);
     }
-    bad(out)
+    answers::bad(out)
 }

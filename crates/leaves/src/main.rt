@@ -3,6 +3,7 @@ mod answers;
 mod lines;
 
 fn main() {
-    let mut line = io::buffer();
-    lines::answer_all(&mut line);
+    let mut line = [0u8; text::lines::ROOM];
+    let mut bytes = io::buffer();
+    lines::answer_all(&mut line, &mut bytes);
 }

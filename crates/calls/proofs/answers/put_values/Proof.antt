@@ -2,21 +2,24 @@ use Prim.Native.Nat.{_-_, _≤_}
 use mathlib.Core.Path.{_≡_}
 use lib.ListN.{length}
 use borrow.Author.Needs.{needs}
-use Rattle.leaves.proofs.lines.take_all.Statement.{statement}
-use Rattle.leaves.proofs.lines.take_all.Tie as tie
+use Rattle.calls.proofs.answers.put_values.Statement.{statement}
+use Rattle.calls.proofs.answers.put_values.Tie as tie
 
 abbrev Inv-loop : tie.InvT-loop
-Inv-loop line₀ n bytes now₀ k₀ k-end line now k = (k-end ≡ length bytes) × ((k ≤ length bytes) × (length line ≡ length line₀))
+Inv-loop out₀ at count slots here₀ k₀ out here k = (k ≤ 16) × (length out ≡ length out₀)
 
 abbrev μ-loop : tie.MeasureT-loop
-μ-loop line₀ n bytes now₀ k₀ k-end line now k = length bytes - k
+μ-loop out₀ at count slots here₀ k₀ out here k = 16 - k
 
-pub take-all-spec : {M : Type 1} → statement M
-take-all-spec =
+pub put-values-spec : {M : Type 1} → statement M
+put-values-spec =
     tie.close
     (tie.spec
     Inv-loop
     μ-loop
+    (λ c. search needs)
+    (λ c. search needs)
+    (λ c. search needs)
     (λ c. search needs)
     (λ c. search needs)
     (λ c κs. search needs)

@@ -1,0 +1,97 @@
+// Every line of standard input is answered.
+use crate::answers;
+use crate::building;
+use crate::running;
+use crate::running::Answered;
+use crate::table;
+use libc::STDOUT_FILENO;
+use program_graph::builder;
+use program_graph::inner::fresh;
+use program_graph::run::ProgramGraphRun;
+use text::lines;
+use text::ranges;
+use text::tokens;
+
+// Room for the longest answer, a run that is shown whole.
+const ANSWER: usize = 512;
+
+// Lines on the graph. A new one has no run yet.
+fn on_graph(
+    line: &[u8],
+    at: usize,
+    t: &mut [u64],
+    run: ProgramGraphRun,
+    out: &mut [u8],
+) -> Answered {
+    if !tokens::is(tokens::token(line, at), b"new") {
+        return Answered {
+            length: building::answer(line, at, t, out),
+            run,
+        };
+    }
+    if !tokens::ended(line, tokens::next(line, at)) {
+        return running::bad(run, out);
+    }
+    Answered {
+        length: answers::done(out, builder::new(t)),
+        run: fresh::no_run(),
+    }
+}
+
+// Lines that leave the run as it is.
+fn on_words(line: &[u8], name: &[u8], at: usize, t: &mut [u64], out: &mut [u8]) -> usize {
+    if tokens::is(name, b"range") {
+        return ranges::answer(line, at, out);
+    }
+    if tokens::is(name, b"poke") {
+        return table::poke(line, at, t, out);
+    }
+    if tokens::is(name, b"sum") {
+        return table::sum(line, at, t, out);
+    }
+    text::answers::bad(out)
+}
+
+fn answer(line: &[u8], t: &mut [u64], run: ProgramGraphRun, out: &mut [u8]) -> Answered {
+    let name = tokens::token(line, 0);
+    let at = tokens::next(line, 0);
+    if tokens::is(name, b"g") {
+        return on_graph(line, at, t, run, out);
+    }
+    if tokens::is(name, b"r") {
+        return running::answer(line, at, t, run, out);
+    }
+    Answered {
+        length: on_words(line, name, at, t, out),
+        run,
+    }
+}
+
+// Writes the answer to a line, and gives the run after it.
+fn tell(line: &[u8], length: usize, t: &mut [u64], run: ProgramGraphRun) -> ProgramGraphRun {
+    let mut out = [0u8; ANSWER];
+    if lines::LONGEST < length {
+        let count = text::answers::bad(&mut out);
+        io::write_all(STDOUT_FILENO, tokens::part(&out, count));
+        return run;
+    }
+    let answered = answer(tokens::part(line, length), t, run, &mut out);
+    io::write_all(STDOUT_FILENO, tokens::part(&out, answered.length));
+    let next = answered.run;
+    next
+}
+
+// The turns are counted down, as in reading.
+pub fn answer_all(line: &mut [u8], bytes: &mut [u8], t: &mut [u64]) {
+    let mut run = fresh::no_run();
+    let mut reader = lines::start();
+    let mut turns = u64::MAX;
+    while 0 < turns {
+        reader = lines::read_line(line, bytes, reader);
+        if !reader.whole {
+            return;
+        }
+        run = tell(line, reader.length, t, run);
+        turns -= 1;
+    }
+}

@@ -1,0 +1,107 @@
+// Lines on the run.
+use crate::answers;
+use crate::showing;
+use crate::stepping;
+use program_graph::run::ProgramGraphRun;
+use program_graph::run::Stepped;
+use text::numbers;
+use text::numbers::Small;
+use text::tokens;
+
+// How long the answer is, and the run after it.
+pub struct Answered {
+    pub length: usize,
+    pub run: ProgramGraphRun,
+}
+
+pub fn bad(run: ProgramGraphRun, out: &mut [u8]) -> Answered {
+    Answered {
+        length: text::answers::bad(out),
+        run,
+    }
+}
+
+pub fn stepped(out: &mut [u8], s: Stepped) -> Answered {
+    let answer = s.answer;
+    let run = s.run;
+    Answered {
+        length: answers::done(out, answer),
+        run,
+    }
+}
+
+// Lines that ask, and change nothing.
+fn asked(verb: &[u8], n: u32, t: &[u64], run: ProgramGraphRun, out: &mut [u8]) -> usize {
+    if tokens::is(verb, b"can") {
+        return answers::held(out, run.can_wait(t, n));
+    }
+    if tokens::is(verb, b"list") {
+        return answers::listed(out, run.possible_transitions(t, n as usize));
+    }
+    if tokens::is(verb, b"solo") {
+        return answers::listed(out, run.nosync_possible_transitions(t, n as usize));
+    }
+    text::answers::bad(out)
+}
+
+// Lines with one number: r wait D, r can D, r list K, r solo K
+fn numbered(
+    line: &[u8],
+    verb: &[u8],
+    at: usize,
+    t: &[u64],
+    run: ProgramGraphRun,
+    out: &mut [u8],
+) -> Answered {
+    let Small::Is(n) = numbers::read_small(tokens::token(line, at)) else {
+        return bad(run, out);
+    };
+    if !tokens::ended(line, tokens::next(line, at)) {
+        return bad(run, out);
+    }
+    if tokens::is(verb, b"wait") {
+        return stepped(out, run.wait(t, n));
+    }
+    Answered {
+        length: asked(verb, n, t, run, out),
+        run,
+    }
+}
+
+// Lines of two tokens: r new, r waiting, r show
+fn bare(verb: &[u8], t: &[u64], run: ProgramGraphRun, out: &mut [u8]) -> Answered {
+    if tokens::is(verb, b"new") {
+        return stepped(out, ProgramGraphRun::new(t));
+    }
+    if tokens::is(verb, b"waiting") {
+        return Answered {
+            length: answers::held(out, run.is_waiting(t)),
+            run,
+        };
+    }
+    if tokens::is(verb, b"show") {
+        return Answered {
+            length: showing::show(t, run, out),
+            run,
+        };
+    }
+    bad(run, out)
+}
+
+pub fn answer(line: &[u8], at: usize, t: &[u64], run: ProgramGraphRun, out: &mut [u8]) -> Answered {
+    let verb = tokens::token(line, at);
+    let next = tokens::next(line, at);
+    if tokens::ended(line, next) {
+        return bare(verb, t, run, out);
+    }
+    if tokens::is(verb, b"step") {
+        return stepping::step(line, next, t, run, out);
+    }
+    if tokens::is(verb, b"send") {
+        return stepping::send(line, next, t, run, out);
+    }
+    if tokens::is(verb, b"receive") {
+        return stepping::receive(line, next, t, run, out);
+    }
+    numbered(line, verb, next, t, run, out)
+}

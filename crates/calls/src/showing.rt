@@ -1,0 +1,35 @@
+// The run as text. It is shown by the graph's counts, and makes no call.
+use crate::answers;
+use graph_tables::inner;
+use graph_tables::sizes;
+use program_graph::run::ProgramGraphRun;
+use text::output;
+
+fn put_places(out: &mut [u8], run: ProgramGraphRun, count: usize) -> usize {
+    let places = run.places;
+    let here = output::put_all(out, 0, b"places");
+    answers::put_numbers(out, here, &places, count)
+}
+
+fn put_vars(out: &mut [u8], at: usize, run: ProgramGraphRun, count: usize) -> usize {
+    let vars = run.vars;
+    let here = output::put_all(out, at, b" vars");
+    answers::put_values(out, here, vars, count)
+}
+
+fn put_clocks(out: &mut [u8], at: usize, run: ProgramGraphRun, count: usize) -> usize {
+    let clocks = run.clocks;
+    let here = output::put_all(out, at, b" clocks");
+    answers::put_numbers(out, here, &clocks, count)
+}
+
+// A count that is above the run's size shows all of the run.
+pub fn show(t: &[u64], run: ProgramGraphRun, out: &mut [u8]) -> usize {
+    if t.len() != sizes::WORDS {
+        return text::answers::bad(out);
+    }
+    let a = put_places(out, run, inner::process_count(t));
+    let b = put_vars(out, a, run, inner::variable_count(t));
+    let c = put_clocks(out, b, run, inner::clock_count(t));
+    text::answers::end(out, c)
+}
