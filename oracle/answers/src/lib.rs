@@ -1,0 +1,11 @@
+//! Answers the lines of the line language: by the Rust where it has an answer, and by document 01's rules everywhere.
+
+pub mod answer;
+pub mod building;
+pub mod call;
+pub mod expression;
+pub mod lines;
+pub mod oracle;
+pub mod running;
+pub mod rust;
+pub mod table;

@@ -1,0 +1,19 @@
+//! Random scripts of calls, and a comparison of two programs that answer them (README.md).
+
+pub mod chance;
+pub mod cut;
+pub mod differ;
+mod faults;
+pub mod graph;
+pub mod junk;
+pub mod maker;
+mod malformed;
+mod ordinary;
+mod parts;
+mod pokes;
+pub mod programs;
+mod runs;
+pub mod sample;
+pub mod script;
+mod sizes;
+pub mod table;
