@@ -11,3 +11,4 @@ pub mod RunChains
 pub mod KeptCalls
 pub mod Theorems
 pub mod MarkedLaws
+pub mod RunListed
