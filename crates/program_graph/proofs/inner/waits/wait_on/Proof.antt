@@ -1,6 +1,7 @@
 use Prim.Native.Nat.{ℕ}
 use mathlib.Core.Path.{ap, _∙_}
 use mathlib.Core.List.{List}
+use native.Mathlib.Omega.{arith}
 use borrow.Author.Needs.{needs}
 use Rattle.laws.proofs.Ladder.{passed, stopped}
 use Rattle.laws.proofs.Tests.{held, failed}
@@ -11,7 +12,10 @@ use Rattle.program_graph.proofs.inner.waits.wait_on.Statement.{statemen
 use Rattle.program_graph.proofs.inner.waits.wait_on.Tie as tie
 
 clocks-fit-requires : tie.Need-clocks-fit-requires
-clocks-fit-requires c κs = let p = c .before .before .pre in few-timers _ _ (p .0) (p .1)
+clocks-fit-requires c κs =
+    let p = c .before .before .pre in
+    let few = few-timers _ _ (p .0) (p .1) in
+    omega (arith, few)
 
 returns : tie.Need-returns
 unfolding waitedOf
