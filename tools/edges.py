@@ -9,7 +9,8 @@ library, list by list under the same names, and writes each answer.
 """
 import copy
 import os
-import sys
+
+from model import Refused, check, write_or_check
 
 PATH = os.path.join(os.path.dirname(os.path.abspath(__file__)), '..', 'crates', 'edges', 'stdout')
 
@@ -23,15 +24,6 @@ MISMATCHING_POST_STATES, UNSATISFIED_GUARD, INVARIANT = 7, 8, 9
 COMMUNICATION, NOT_SEND, NOT_RECEIVE, SYNC, OVERFLOW, BAD_STATE = 13, 14, 15, 16, 26, 32
 
 PLAIN, SEND, RECEIVE = 'plain', 'send', 'receive'
-
-
-class Refused(Exception):
-    pass
-
-
-def check(fine, number):
-    if not fine:
-        raise Refused(number)
 
 
 # Time ranges: each end is None, or a time and whether it is included.
@@ -888,12 +880,7 @@ def main():
         LINES.append('ok' + state(c.run))
         calls(c)
         run = c.run
-    made = ''.join(line + '\n' for line in LINES)
-    if sys.argv[1:] == ['--check']:
-        with open(PATH) as f:
-            sys.exit(0 if f.read() == made else 'crates/edges/stdout is not what tools/edges.py writes')
-    with open(PATH, 'w') as f:
-        f.write(made)
+    write_or_check(PATH, LINES)
 
 
 if __name__ == '__main__':

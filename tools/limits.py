@@ -8,7 +8,8 @@ it the calls that the program makes of the library, list by list under the same 
   limits.py --check   says whether it is what would be written
 """
 import os
-import sys
+
+from model import Refused, check, write_or_check
 
 PATH = os.path.join(os.path.dirname(os.path.abspath(__file__)), '..', 'crates', 'limits', 'stdout')
 
@@ -24,15 +25,6 @@ TABLE_FULL, NO_PROCESS, BAD_STATE = 28, 29, 32
 
 BOOLEAN, INTEGER = 0, 1
 PLAIN, SEND, RECEIVE = 'plain', 'send', 'receive'
-
-
-class Refused(Exception):
-    pass
-
-
-def check(fine, number):
-    if not fine:
-        raise Refused(number)
 
 
 # Expressions: a list of words, the operation in the low byte, the payload above it.
@@ -550,9 +542,4 @@ def run():
 
 if __name__ == '__main__':
     run()
-    TEXT = '\n'.join(LINES) + '\n'
-    if sys.argv[1:] == ['--check']:
-        if open(PATH).read() != TEXT:
-            sys.exit('limits.py: crates/limits/stdout is not what would be written')
-    else:
-        open(PATH, 'w').write(TEXT)
+    write_or_check(PATH, LINES)
