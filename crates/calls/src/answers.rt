@@ -1,11 +1,17 @@
 // What a call answered, as a line. Each function gives its length.
+use grammar::evaluation::Evaluated;
+use grammar::typing::Typed;
 use grammar::values::Slot;
+use grammar::values::Type;
 use grammar::values::Val;
 use graph_tables::answers::Done;
 use graph_tables::answers::Entry;
 use graph_tables::answers::Placed;
+use graph_tables::answers::VarType;
 use graph_tables::ids::Action;
 use program_graph::run::Held;
+use program_graph::run::States;
+use program_graph::run::Value;
 use program_graph::transitions::Listed;
 use text::answers;
 use text::lists;
@@ -39,6 +45,29 @@ pub fn held(out: &mut [u8], h: Held) -> usize {
     match h {
         Held::Is(yes) => answers::yes_or_no(out, yes),
         Held::Refused(r) => answers::refused(out, r.number()),
+    }
+}
+
+fn kind(out: &mut [u8], t: Type) -> usize {
+    match t {
+        Type::Boolean => output::put_all(out, 0, b"ok b\n"),
+        Type::Integer => output::put_all(out, 0, b"ok i\n"),
+    }
+}
+
+pub fn var_type(out: &mut [u8], v: VarType) -> usize {
+    match v {
+        VarType::Known(t) => kind(out, t),
+        VarType::Refused(r) => answers::refused(out, r.number()),
+    }
+}
+
+pub fn typed(out: &mut [u8], t: Typed) -> usize {
+    match t {
+        Typed::Known(k) => kind(out, k),
+        Typed::IllTyped | Typed::TableFull | Typed::TooDeep(_) => {
+            answers::refused(out, t.number())
+        }
     }
 }
 
@@ -100,4 +129,48 @@ pub fn put_values(out: &mut [u8], at: usize, slots: [Slot; 16], count: usize) ->
         here = put_next_value(out, here, value);
     }
     here
+}
+
+pub fn value(out: &mut [u8], v: Value) -> usize {
+    match v {
+        Value::Is(x) => {
+            let here = output::put_all(out, 0, b"ok");
+            let last = put_next_value(out, here, x);
+            answers::end(out, last)
+        }
+        Value::Refused(r) => answers::refused(out, r.number()),
+    }
+}
+
+fn put_evaluated(out: &mut [u8], e: Evaluated) -> usize {
+    match e {
+        Evaluated::Known(x) => {
+            let here = output::put_all(out, 0, b"ok");
+            put_next_value(out, here, x)
+        }
+        Evaluated::NoValue => output::put_all(out, 0, b"none"),
+    }
+}
+
+// A value or none, and the rest of the word.
+pub fn evaluated(out: &mut [u8], e: Evaluated, rest: u64) -> usize {
+    let a = put_evaluated(out, e);
+    let b = output::put(out, a, b' ');
+    let c = output::put_number(out, b, rest);
+    answers::end(out, c)
+}
+
+fn put_places(out: &mut [u8], s: States) -> usize {
+    let places = s.places;
+    let here = output::put_all(out, 0, b"ok");
+    let last = put_numbers(out, here, &places, s.count);
+    answers::end(out, last)
+}
+
+pub fn states(out: &mut [u8], s: States) -> usize {
+    let answer = s.answer;
+    match answer {
+        Done::Accepted => put_places(out, s),
+        Done::Refused(r) => answers::refused(out, r.number()),
+    }
 }

@@ -38,6 +38,17 @@ fn process(line: &[u8], at: usize, t: &mut [u64], out: &mut [u8]) -> usize {
     answers::done(out, builder::new_process(t, Location(l)))
 }
 
+// g kind V
+fn kind(line: &[u8], at: usize, t: &[u64], out: &mut [u8]) -> usize {
+    let Small::Is(v) = numbers::read_small(tokens::token(line, at)) else {
+        return text::answers::bad(out);
+    };
+    if !tokens::ended(line, tokens::next(line, at)) {
+        return text::answers::bad(out);
+    }
+    answers::var_type(out, builder::var_type(t, Var(v)))
+}
+
 // g reset A C
 fn reset(line: &[u8], at: usize, t: &mut [u64], out: &mut [u8]) -> usize {
     let Small::Is(a) = lists::read_action(tokens::token(line, at)) else {
@@ -56,7 +67,7 @@ fn reset(line: &[u8], at: usize, t: &mut [u64], out: &mut [u8]) -> usize {
 // EXPR, of the effect of an action on a variable
 fn effect_of(line: &[u8], at: usize, t: &mut [u64], a: u32, v: u32, out: &mut [u8]) -> usize {
     let mut words = [0u64; lists::ITEMS];
-    let Expression::Is { count, next } = lists::read_expression(line, at, &mut words) else {
+    let Expression::Is { count, next } = items::read_expression(line, at, &mut words) else {
         return text::answers::bad(out);
     };
     if !tokens::ended(line, next) {
@@ -161,6 +172,9 @@ pub fn answer(line: &[u8], at: usize, t: &mut [u64], out: &mut [u8]) -> usize {
     let next = tokens::next(line, at);
     if tokens::is(verb, b"var") {
         return var(line, next, t, out);
+    }
+    if tokens::is(verb, b"kind") {
+        return kind(line, next, t, out);
     }
     if tokens::is(verb, b"process") {
         return process(line, next, t, out);

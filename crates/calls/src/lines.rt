@@ -1,6 +1,7 @@
 // Every line of standard input is answered.
 use crate::answers;
 use crate::building;
+use crate::expressions;
 use crate::running;
 use crate::running::Answered;
 use crate::table;
@@ -42,6 +43,15 @@ fn on_graph(
 fn on_words(line: &[u8], name: &[u8], at: usize, t: &mut [u64], out: &mut [u8]) -> usize {
     if tokens::is(name, b"range") {
         return ranges::answer(line, at, out);
+    }
+    if tokens::is(name, b"type") {
+        return expressions::type_of(line, at, out);
+    }
+    if tokens::is(name, b"draws") {
+        return expressions::draws_of(line, at, out);
+    }
+    if tokens::is(name, b"eval") {
+        return expressions::evaluate(line, at, out);
     }
     if tokens::is(name, b"poke") {
         return table::poke(line, at, t, out);

@@ -136,37 +136,6 @@ pub fn read_last_limits(line: &[u8], at: usize) -> Conditions {
     read
 }
 
-// Whether a token is an `x` with more behind it.
-fn is_raw(token: &[u8]) -> bool {
-    if token.len() < 2 {
-        return false;
-    }
-    token[0] == b'x'
-}
-
-// Whether one of so many tokens from a place on is.
-fn any_raw(line: &[u8], at: usize, count: usize) -> bool {
-    let mut here = at;
-    for k in 0..count {
-        if is_raw(tokens::token(line, here)) {
-            return true;
-        }
-        here = tokens::next(line, here);
-    }
-    false
-}
-
-// EXPR, its words in the lent ones. `xW`, a word as it is, is no item of this language.
-pub fn read_expression(line: &[u8], at: usize, words: &mut [u64]) -> Expression {
-    let Expression::Is { count, next } = items::read_expression(line, at, words) else {
-        return Expression::Bad;
-    };
-    if any_raw(line, tokens::next(line, at), count) {
-        return Expression::Bad;
-    }
-    Expression::Is { count, next }
-}
-
 // Whether there is a guard, how many items it has, and where the token after it starts.
 pub enum Guard {
     Is {
@@ -186,7 +155,7 @@ pub fn read_guard(line: &[u8], at: usize, words: &mut [u64]) -> Guard {
             next: tokens::next(line, at),
         };
     }
-    let Expression::Is { count, next } = read_expression(line, at, words) else {
+    let Expression::Is { count, next } = items::read_expression(line, at, words) else {
         return Guard::Bad;
     };
     Guard::Is {

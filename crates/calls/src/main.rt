@@ -1,6 +1,7 @@
 // Answers lines, each by the public call that it names. It holds one graph, in a lent table, and one run of it.
 mod answers;
 mod building;
+mod expressions;
 mod lines;
 mod lists;
 mod messages;

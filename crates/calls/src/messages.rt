@@ -5,6 +5,7 @@ use graph_tables::answers::Placed;
 use graph_tables::handed::Vars;
 use graph_tables::ids::Var;
 use program_graph::builder;
+use text::items;
 use text::items::Expression;
 use text::lists::Numbers;
 use text::tokens;
@@ -29,7 +30,7 @@ fn read_nth(line: &[u8], at: usize, words: &mut [u64], k: usize) -> Expression {
     }
     let from = k * lists::ITEMS;
     let end = from + lists::ITEMS;
-    lists::read_expression(line, at, &mut words[from..end])
+    items::read_expression(line, at, &mut words[from..end])
 }
 
 // EXPR.. to the line's end.

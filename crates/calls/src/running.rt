@@ -2,6 +2,8 @@
 use crate::answers;
 use crate::showing;
 use crate::stepping;
+use graph_tables::ids::Clock;
+use graph_tables::ids::Var;
 use program_graph::run::ProgramGraphRun;
 use program_graph::run::Stepped;
 use text::numbers;
@@ -41,10 +43,16 @@ fn asked(verb: &[u8], n: u32, t: &[u64], run: ProgramGraphRun, out: &mut [u8]) -
     if tokens::is(verb, b"solo") {
         return answers::listed(out, run.nosync_possible_transitions(t, n as usize));
     }
+    if tokens::is(verb, b"value") {
+        return answers::value(out, run.value(t, Var(n)));
+    }
+    if tokens::is(verb, b"clock") {
+        return answers::placed(out, run.time(t, Clock(n)));
+    }
     text::answers::bad(out)
 }
 
-// Lines with one number: r wait D, r can D, r list K, r solo K
+// Lines with one number: r wait D, r can D, r list K, r solo K, r value V, r clock C
 fn numbered(
     line: &[u8],
     verb: &[u8],
@@ -68,7 +76,7 @@ fn numbered(
     }
 }
 
-// Lines of two tokens: r new, r waiting, r show
+// Lines of two tokens: r new, r waiting, r places, r show
 fn bare(verb: &[u8], t: &[u64], run: ProgramGraphRun, out: &mut [u8]) -> Answered {
     if tokens::is(verb, b"new") {
         return stepped(out, ProgramGraphRun::new(t));
@@ -76,6 +84,12 @@ fn bare(verb: &[u8], t: &[u64], run: ProgramGraphRun, out: &mut [u8]) -> Answere
     if tokens::is(verb, b"waiting") {
         return Answered {
             length: answers::held(out, run.is_waiting(t)),
+            run,
+        };
+    }
+    if tokens::is(verb, b"places") {
+        return Answered {
+            length: answers::states(out, run.current_states(t)),
             run,
         };
     }

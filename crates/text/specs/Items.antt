@@ -16,13 +16,13 @@ use Rattle.text.specs.declared.numbers.Small.the-variants.{Is as Small·
 use Rattle.text.specs.declared.numbers.Integer.{Integer}
 use Rattle.text.specs.declared.numbers.Integer.the-variants.{Is as Integer·Is, Bad as Integer·Bad}
 use Rattle.text.specs.declared.items.Symbol.{Symbol}
-use Rattle.text.specs.declared.items.Symbol.the-variants.{Item, Word, Bad}
+use Rattle.text.specs.declared.items.Symbol.the-variants.{Item, Nothing, Bad}
 use Rattle.text.specs.declared.items.Expression.{Expression}
 use Rattle.text.specs.declared.items.Expression.the-variants.{Is as Expression·Is, Bad as Expression·Bad}
 use Rattle.text.specs.Tokens.{tokenOf, nextOf, sameBytes}
-use Rattle.text.specs.Numbers.{numberOf, smallOf, integerOf}
+use Rattle.text.specs.Numbers.{smallOf, integerOf}
 
--- a token of one byte; the word 0 is no item's
+-- a token of one byte; `x` is an item that is none
 unfoldable pub letterOf : ℕ → Symbol
 letterOf b =
     cond (eqb b 116) (Item (Constant (Boolean true)))
@@ -39,7 +39,7 @@ letterOf b =
     (cond (eqb b 61) (Item (Binary Equal))
     (cond (eqb b 60) (Item (Binary Less))
     (cond (eqb b 63) (Item Draw)
-    (cond (eqb b 120) (Word 0) Bad))))))))))))))
+    (cond (eqb b 120) Nothing Bad))))))))))))))
 
 abbrev pub constantOf : Integer → Symbol
 constantOf (Integer·Is i) = Item (Constant (Integral i))
@@ -49,25 +49,20 @@ abbrev pub variableOf : Small → Symbol
 variableOf (Small·Is v) = Item (Variable v)
 variableOf Small·Bad = Bad
 
-abbrev pub rawOf : Number → Symbol
-rawOf (Number·Is w) = Word w
-rawOf Number·Bad = Bad
-
--- a longer token: `#` an integer, `v` a variable, `x` a word as it is, or `<=`
+-- a longer token: `#` an integer, `v` a variable, or `<=`
 unfoldable pub longOf : ℕ → List ℕ → Symbol
 longOf b rest =
     cond (eqb b 35) (constantOf (integerOf rest))
     (cond (eqb b 118) (variableOf (smallOf rest))
-    (cond (eqb b 120) (rawOf (numberOf 20 18446744073709551615 rest))
-    (cond (eqb b 60) (cond (sameBytes rest (61 ∷ [])) (Item (Binary LessOrEqual)) Bad) Bad)))
+    (cond (eqb b 60) (cond (sameBytes rest (61 ∷ [])) (Item (Binary LessOrEqual)) Bad) Bad))
 
 unfoldable pub symbolOf : List ℕ → Symbol
 symbolOf token = cond (ltb (length token) 2) (letterOf (getD token 0 0)) (longOf (getD token 0 0) (drop 1 token))
 
--- the word of a symbol
+-- the word of a symbol; the word 0 is no item's
 unfoldable pub symbolWord : Symbol → Number
 symbolWord (Item i) = Number·Is (wordOf i)
-symbolWord (Word w) = Number·Is w
+symbolWord Nothing = Number·Is 0
 symbolWord Bad = Number·Bad
 
 abbrev pub wordAt : List ℕ → Number

@@ -9,14 +9,14 @@ use grammar::items::Item;
 use grammar::items::Unary;
 use grammar::values::Val;
 ghost use mathlib.Core.Path.{_≡_};
-ghost use Rattle.text.specs.Items.{letterOf, constantOf, variableOf, rawOf, longOf, symbolOf, wordAt, closesAt, wordsFrom, itemsFrom, expressionWords, expressionAt};
+ghost use Rattle.text.specs.Items.{letterOf, constantOf, variableOf, longOf, symbolOf, wordAt, closesAt, wordsFrom, itemsFrom, expressionWords, expressionAt};
 ghost use lib.ListN.{length, take};
 ghost use lib.Seq.{sets};
 
-// What a token stands for: an item, or a word that is handed over as it is and may be no item's.
+// What a token stands for: an item, or `x`, an item that is none.
 pub enum Symbol {
     Item(Item),
-    Word(u64),
+    Nothing,
     Bad,
 }
 
@@ -39,7 +39,7 @@ fn letter(byte: u8) -> Symbol
         b'=' => Symbol::Item(Item::Binary(Binary::Equal)),
         b'<' => Symbol::Item(Item::Binary(Binary::Less)),
         b'?' => Symbol::Item(Item::Draw),
-        b'x' => Symbol::Word(0),
+        b'x' => Symbol::Nothing,
         _ => Symbol::Bad,
     }
 }
@@ -62,15 +62,6 @@ fn variable(n: Small) -> Symbol
     }
 }
 
-fn raw(n: Number) -> Symbol
-    ensures { λ r. ⌜ r ≡ rawOf n ⌝ }
-{
-    match n {
-        Number::Is(w) => Symbol::Word(w),
-        Number::Bad => Symbol::Bad,
-    }
-}
-
 // A token of two bytes or more: what follows its first byte decides.
 fn longer(byte: u8, rest: &[u8]) -> Symbol
     ensures { λ r. ⌜ r ≡ longOf byte (now (rest .entry)) ⌝ }
@@ -78,7 +69,6 @@ fn longer(byte: u8, rest: &[u8]) -> Symbol
     match byte {
         b'#' => constant(numbers::read_integer(rest)),
         b'v' => variable(numbers::read_small(rest)),
-        b'x' => raw(numbers::read_wide(rest)),
         b'<' => {
             if tokens::is(rest, b"=") {
                 Symbol::Item(Item::Binary(Binary::LessOrEqual))
@@ -90,7 +80,7 @@ fn longer(byte: u8, rest: &[u8]) -> Symbol
     }
 }
 
-// The item of a token. `x` alone is the word 0, and `xW` the word W.
+// The item of a token.
 pub fn read_symbol(token: &[u8]) -> Symbol
     ensures { λ r. ⌜ r ≡ symbolOf (now (token .entry)) ⌝ }
 {
@@ -101,13 +91,13 @@ pub fn read_symbol(token: &[u8]) -> Symbol
     longer(byte, tokens::tail(token))
 }
 
-// The word of a token's item.
+// The word of a token's item; 0 is the word of none.
 pub fn read_word(token: &[u8]) -> Number
     ensures { λ r. ⌜ r ≡ wordAt (now (token .entry)) ⌝ }
 {
     match read_symbol(token) {
         Symbol::Item(i) => Number::Is(i.word()),
-        Symbol::Word(w) => Number::Is(w),
+        Symbol::Nothing => Number::Is(0),
         Symbol::Bad => Number::Bad,
     }
 }

@@ -1,6 +1,6 @@
 //! Answers, and how they are written.
 
-use scan_core::Val;
+use scan_core::{Type, Val};
 use std::{fmt, ops::Bound};
 
 /// The reserved action number.
@@ -11,8 +11,13 @@ pub enum Answer {
     Ok,
     /// A new number.
     Number(u32),
-    /// The values of a message.
+    /// The values of a message, or of a variable.
     Values(Vec<Val>),
+    /// Where the processes are.
+    Places(Vec<u32>),
+    Kind(Type),
+    /// A value or none, and the rest of the word.
+    Evaluated(Option<Val>, u64),
     Yes,
     No,
     Refused(u32),
@@ -47,6 +52,14 @@ impl fmt::Display for Answer {
                 vals.iter()
                     .try_for_each(|val| write!(f, " {}", Shown(*val)))
             }
+            Answer::Places(places) => {
+                f.write_str("ok")?;
+                places.iter().try_for_each(|place| write!(f, " {place}"))
+            }
+            Answer::Kind(Type::Boolean) => f.write_str("ok b"),
+            Answer::Kind(Type::Integer) => f.write_str("ok i"),
+            Answer::Evaluated(Some(val), rest) => write!(f, "ok {} {rest}", Shown(*val)),
+            Answer::Evaluated(None, rest) => write!(f, "none {rest}"),
             Answer::Yes => f.write_str("yes"),
             Answer::No => f.write_str("no"),
             Answer::Refused(number) => write!(f, "refused {number}"),

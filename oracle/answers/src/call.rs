@@ -3,7 +3,7 @@
 use crate::answer::EPSILON;
 use crate::expression::{BOOLEAN, INTEGER, VARIABLE};
 use crate::table::WORDS;
-use scan_core::Val;
+use scan_core::{Type, Val};
 use std::ops::Bound;
 
 /// Words of items, see docs/DECISIONS.md.
@@ -20,12 +20,16 @@ pub struct Limit {
 pub enum Call {
     NewGraph,
     Building(Building),
+    Kind(u32),
     Build,
     NewRun,
     Running(Running),
     Show,
     Has(Bound<u32>, Bound<u32>, u32),
     Shift(Bound<u32>, Bound<u32>, u32),
+    Type(Items, Vec<Type>),
+    Draws(Items),
+    Eval(Items, Vec<Val>, u64),
     Poke(usize, u64),
     Sum,
 }
@@ -67,12 +71,17 @@ pub enum Running {
     Waiting,
     List(u32),
     Solo(u32),
+    Value(u32),
+    Clock(u32),
+    Places,
 }
 
 const MOST_ITEMS: usize = 100;
 const MOST_LIMITS: usize = 16;
 const MOST_POSTS: usize = 8;
 const MOST_OTHERS: usize = 6;
+/// Of an expression that stands alone.
+const MOST_VARS: usize = 16;
 
 /// The call that a line names, if it is a line of the language.
 pub fn read(line: &[u8]) -> Option<Call> {
@@ -110,6 +119,13 @@ impl<'a> Tokens<'a> {
             b"g" => self.graph_call(),
             b"r" => self.run_call(),
             b"range" => self.range_call(),
+            b"type" => Some(Call::Type(self.expression()?, kinds(self.next()?)?)),
+            b"draws" => Some(Call::Draws(self.expression()?)),
+            b"eval" => Some(Call::Eval(
+                self.expression()?,
+                self.between(b"(", b")", MOST_VARS, Tokens::value)?,
+                wide(self.next()?)?,
+            )),
             b"poke" => {
                 self.expect(b"g")?;
                 let place = self.number()? as usize;
@@ -128,6 +144,7 @@ impl<'a> Tokens<'a> {
         let building = match self.next()? {
             b"new" => return Some(Call::NewGraph),
             b"build" => return Some(Call::Build),
+            b"kind" => return Some(Call::Kind(self.number()?)),
             b"var" => Building::Var(self.value()?),
             b"clock" => Building::Clock,
             b"action" => Building::Action,
@@ -184,6 +201,9 @@ impl<'a> Tokens<'a> {
             b"waiting" => Running::Waiting,
             b"list" => Running::List(self.number()?),
             b"solo" => Running::Solo(self.number()?),
+            b"value" => Running::Value(self.number()?),
+            b"clock" => Running::Clock(self.number()?),
+            b"places" => Running::Places,
             _ => return None,
         };
         Some(Call::Running(running))
@@ -309,6 +329,20 @@ fn item(token: &[u8]) -> Option<u64> {
         [b'v', rest @ ..] => number(rest).map(|n| VARIABLE + 256 * u64::from(n)),
         _ => None,
     }
+}
+
+/// Kinds of variables: a letter for each, `-` for none.
+fn kinds(token: &[u8]) -> Option<Vec<Type>> {
+    if token == b"-" {
+        return Some(vec![]);
+    }
+    let kind = |letter: &u8| match letter {
+        b'b' => Some(Type::Boolean),
+        b'i' => Some(Type::Integer),
+        _ => None,
+    };
+    let fits = (1..=MOST_VARS).contains(&token.len());
+    fits.then(|| token.iter().map(kind).collect())?
 }
 
 fn digits(token: &[u8], most: usize) -> Option<u128> {

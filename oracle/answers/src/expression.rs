@@ -91,32 +91,50 @@ pub fn draws(items: &[u64]) -> usize {
         .count()
 }
 
-/// The value of a well-typed expression, if it has one. Every item is evaluated; draws take the lowest bits of the word.
+/// The value of any items, if they have one. Every item is evaluated; draws take the lowest bits of the word, also of items
+/// that have no value: those with an operand too few, more than 16 waiting, or not one result.
 pub fn value_of(items: &[u64], vars: &[Val], word: &mut u64) -> Option<Val> {
     let mut waiting: Vec<Option<Val>> = Vec::new();
+    let mut fits = true;
     for &item in items {
-        let value = match meaning(item).expect("an item") {
-            Meaning::Const(val) => Some(val),
-            Meaning::Var(var) => Some(vars[var as usize]),
-            Meaning::Draw => {
+        let value = match meaning(item) {
+            None => None,
+            Some(Meaning::Const(val)) => Some(val),
+            Some(Meaning::Var(var)) => vars.get(var as usize).copied(),
+            Some(Meaning::Draw) => {
                 let bit = *word % 2;
                 *word /= 2;
                 Some(Val::Boolean(bit == 1))
             }
-            Meaning::Operation(operation) => computed(operation, &mut waiting),
+            Some(Meaning::Operation(operation)) => {
+                fits &= waiting.len() >= takes(operation);
+                computed(operation, &mut waiting)
+            }
         };
         waiting.push(value);
+        fits &= waiting.len() <= MOST_OPERANDS;
     }
-    waiting.pop().expect("one result")
+    match waiting.as_slice() {
+        &[value] if fits => value,
+        _ => None,
+    }
 }
 
-fn computed(operation: u8, waiting: &mut Vec<Option<Val>>) -> Option<Val> {
-    let last = waiting.pop().expect("an operand");
+fn takes(operation: u8) -> usize {
     match operation {
-        1 => Some(Val::Boolean(!truth(last?))),
-        4 => fitting(-whole(last?)),
+        1 | 4 => 1,
+        _ => 2,
+    }
+}
+
+/// An operand that is missing or of another kind leaves no value.
+fn computed(operation: u8, waiting: &mut Vec<Option<Val>>) -> Option<Val> {
+    let last = waiting.pop().flatten();
+    match operation {
+        1 => Some(Val::Boolean(!truth(last?)?)),
+        4 => fitting(-whole(last?)?),
         _ => {
-            let first = waiting.pop().expect("another operand");
+            let first = waiting.pop().flatten();
             of_two(operation, first?, last?)
         }
     }
@@ -124,18 +142,30 @@ fn computed(operation: u8, waiting: &mut Vec<Option<Val>>) -> Option<Val> {
 
 fn of_two(operation: u8, first: Val, last: Val) -> Option<Val> {
     match operation {
-        2 => Some(Val::Boolean(truth(first) && truth(last))),
-        3 => Some(Val::Boolean(truth(first) || truth(last))),
-        5 => fitting(whole(first) + whole(last)),
-        6 => fitting(whole(first) - whole(last)),
-        7 => fitting(whole(first) * whole(last)),
-        8 if whole(last) == 0 => None,
-        8 => fitting(whole(first) / whole(last)),
-        9 if whole(last) == 0 => None,
-        9 => fitting(whole(first) % whole(last)),
-        10 => Some(Val::Boolean(first == last)),
-        11 => Some(Val::Boolean(whole(first) < whole(last))),
-        12 => Some(Val::Boolean(whole(first) <= whole(last))),
+        2 | 3 => {
+            let (first, last) = (truth(first)?, truth(last)?);
+            let both = operation == 2;
+            Some(Val::Boolean(if both {
+                first && last
+            } else {
+                first || last
+            }))
+        }
+        10 => (first.r#type() == last.r#type()).then_some(Val::Boolean(first == last)),
+        _ => of_integers(operation, whole(first)?, whole(last)?),
+    }
+}
+
+fn of_integers(operation: u8, first: i64, last: i64) -> Option<Val> {
+    match operation {
+        5 => fitting(first + last),
+        6 => fitting(first - last),
+        7 => fitting(first * last),
+        8 | 9 if last == 0 => None,
+        8 => fitting(first / last),
+        9 => fitting(first % last),
+        11 => Some(Val::Boolean(first < last)),
+        12 => Some(Val::Boolean(first <= last)),
         _ => unreachable!("operations are 1 to 12"),
     }
 }
@@ -145,16 +175,16 @@ fn fitting(result: i64) -> Option<Val> {
     i32::try_from(result).ok().map(Val::Integer)
 }
 
-fn truth(val: Val) -> bool {
+fn truth(val: Val) -> Option<bool> {
     match val {
-        Val::Boolean(b) => b,
-        Val::Integer(_) => unreachable!("well typed"),
+        Val::Boolean(b) => Some(b),
+        Val::Integer(_) => None,
     }
 }
 
-fn whole(val: Val) -> i64 {
+fn whole(val: Val) -> Option<i64> {
     match val {
-        Val::Integer(i) => i64::from(i),
-        Val::Boolean(_) => unreachable!("well typed"),
+        Val::Integer(i) => Some(i64::from(i)),
+        Val::Boolean(_) => None,
     }
 }

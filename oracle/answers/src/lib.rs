@@ -1,5 +1,6 @@
 //! Answers the lines of the line language: by the Rust where it has an answer, and by document 01's rules everywhere.
 
+mod alone;
 pub mod answer;
 pub mod building;
 pub mod call;

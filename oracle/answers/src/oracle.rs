@@ -1,5 +1,6 @@
 //! Holds one graph with one run of it, and answers each line twice: by the rules, and by the Rust where it has an answer.
 
+use crate::alone;
 use crate::answer::{Answer, EPSILON};
 use crate::building::{self, Objection};
 use crate::call::{self, Building, Call, Running};
@@ -30,7 +31,7 @@ pub struct Reply {
 #[derive(Debug)]
 pub struct Disagreement(pub String);
 
-type Replied = Result<Reply, Disagreement>;
+pub(crate) type Replied = Result<Reply, Disagreement>;
 
 pub struct Oracle {
     table: Table,
@@ -65,6 +66,7 @@ impl Oracle {
         match call {
             Call::NewGraph => self.new_graph(),
             Call::Building(building) => self.building(&building),
+            Call::Kind(var) => self.kind(var),
             Call::Build => self.build(),
             Call::NewRun => self.new_run(),
             Call::Running(running) => self.running(&running),
@@ -77,6 +79,9 @@ impl Oracle {
                 let ours = Answer::Range(shifted(lower, delta), shifted(upper, delta));
                 both(ours, &rust::shift(lower, upper, delta))
             }
+            Call::Type(items, kinds) => alone::type_of(&items, &kinds),
+            Call::Draws(items) => alone::draws(&items),
+            Call::Eval(items, vals, word) => alone::eval(&items, &vals, word),
             Call::Poke(place, word) => self.poke(place, word),
             Call::Sum => by_rules(Answer::Sum(self.table.sum())),
         }
@@ -118,6 +123,18 @@ impl Oracle {
         };
         self.rust = Some(rust);
         reply
+    }
+
+    fn kind(&mut self, var: u32) -> Replied {
+        let Some(graph) = self.graph.clone() else {
+            return by_rules(Answer::Refused(32));
+        };
+        let val = graph.vars.get(var as usize);
+        let ours = val.map_or(Answer::Refused(4), |val| Answer::Kind(val.r#type()));
+        let rust = self.take_rust(&graph)?;
+        let theirs = rust.kind(var);
+        self.rust = Some(rust);
+        both(ours, &theirs)
     }
 
     fn build(&mut self) -> Replied {
@@ -276,7 +293,9 @@ fn compared(graph: &Graph, run: &Run, running: &Running, answer: &Answer) -> Com
         Running::Send(action, posts, _) | Running::Receive(action, posts, _) => {
             *action != EPSILON && posts.len() != run.processes
         }
-        Running::Step(..) | Running::List(_) | Running::Solo(_) => false,
+        Running::Value(var) => *var as usize >= run.variables,
+        Running::Clock(clock) => *clock as usize >= run.timers,
+        Running::Step(..) | Running::List(_) | Running::Solo(_) | Running::Places => false,
     };
     if no_rule {
         Compared::No
@@ -315,7 +334,7 @@ fn shifted(bound: Bound<u32>, delta: u32) -> Bound<u32> {
     }
 }
 
-fn by_rules(answer: Answer) -> Replied {
+pub(crate) fn by_rules(answer: Answer) -> Replied {
     Ok(Reply {
         mark: Mark::Rules,
         answer,
@@ -347,7 +366,7 @@ fn both(ours: Answer, theirs: &Answer) -> Replied {
     }
 }
 
-fn differs(
+pub(crate) fn differs(
     what: impl std::fmt::Debug,
     ours: &impl std::fmt::Debug,
     theirs: impl std::fmt::Debug,

@@ -82,6 +82,19 @@ pub fn call(graph: &Graph, run: &Run, running: &Running) -> (Answer, Run) {
         Running::List(k) => return (on.entry(*k), run.clone()),
         Running::Solo(_) if run.processes != 1 => Err(16),
         Running::Solo(k) => return (on.entry(*k), run.clone()),
+        Running::Value(var) => {
+            let value = run.used_vars().get(*var as usize);
+            let value = value.map(|val| Answer::Values(vec![*val]));
+            return (value.unwrap_or(Answer::Refused(4)), run.clone());
+        }
+        Running::Clock(clock) => {
+            let time = run.used_clocks().get(*clock as usize);
+            let time = time.map(|time| Answer::Number(*time));
+            return (time.unwrap_or(Answer::Refused(2)), run.clone());
+        }
+        Running::Places => {
+            return (Answer::Places(run.used_places().to_vec()), run.clone());
+        }
     };
     match stepped {
         Ok(accepted) => accepted,

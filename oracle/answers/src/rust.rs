@@ -92,6 +92,13 @@ impl Rust {
         (answer, kept)
     }
 
+    pub fn kind(&self, var: u32) -> Answer {
+        match self.builder.open_var_type(var_of(var)) {
+            Ok(kind) => Answer::Kind(kind),
+            Err(error) => Answer::Refused(number_of(error)),
+        }
+    }
+
     pub fn build(&mut self) -> Result<&ProgramGraph, String> {
         if self.built.is_none() {
             let builder = self.builder.clone();
@@ -282,6 +289,19 @@ fn called(graph: &ProgramGraph, run: &Run, running: &Running) -> Outcome {
             None => return Outcome::Endless,
         },
         Running::Solo(k) => solo_entry(&instance, *k),
+        // The Rust has no call for these two: what its run holds is read.
+        Running::Value(var) => match instance.parts().1.get(*var as usize) {
+            Some(val) => Answer::Values(vec![*val]),
+            None => Answer::Refused(4),
+        },
+        Running::Clock(clock) => match instance.parts().2.get(*clock as usize) {
+            Some(time) => Answer::Number(*time),
+            None => Answer::Refused(2),
+        },
+        Running::Places => {
+            let places = instance.current_states().iter();
+            Answer::Places(places.map(|place| place.number()).collect())
+        }
     };
     Outcome::Answered(answer, Box::new(plain(&instance, run)))
 }
@@ -398,6 +418,34 @@ fn limits_of(limits: &[Limit]) -> Vec<(Clock, TimeRange)> {
             )
         })
         .collect()
+}
+
+/// What the builder says of an expression over variables of these kinds, and the test code of its kind.
+pub fn typed(items: &Items, vars: &[Val]) -> Result<Answer, String> {
+    guarded(|| {
+        let mut builder = ProgramGraphBuilder::new();
+        for val in vars {
+            builder.new_var(*val);
+        }
+        let expression = effect(items, vars);
+        match builder.open_new_send(vec![expression.clone()]) {
+            Ok(_) => Answer::Kind(expression.r#type()),
+            Err(error) => Answer::Refused(number_of(error)),
+        }
+    })
+    .map_err(|outcome| outcome.to_string())
+}
+
+/// The test code's value of a well-typed expression, if it has one.
+pub fn evaluated(items: &Items, vars: &[Val], word: u64) -> Result<Option<Val>, String> {
+    let expression = effect(items, vars);
+    let mut rng = SmallRng::of_word(word);
+    let value = |var: Var| vars[usize::from(var.number())];
+    match guarded(|| expression.eval(&value, Some(&mut rng))) {
+        Ok(val) => Ok(Some(val)),
+        Err(Outcome::NoValue) => Ok(None),
+        Err(outcome) => Err(outcome.to_string()),
+    }
 }
 
 fn effect(items: &Items, vars: &[Val]) -> Expression<Var> {

@@ -58,12 +58,14 @@ pub fn junk(count: usize, seed: u64) -> Vec<u8> {
 /// A call that is right as a line; what it answers does not matter here.
 fn call(maker: &mut Maker) -> String {
     let deltas = maker.odd_time();
-    match maker.chance.below(8) {
+    match maker.chance.below(10) {
         0..=4 => {
             let build = maker.faulty();
             build.text()
         }
         5 => maker.range_line(),
+        8 => maker.reader_line(),
+        9 => maker.expression_line(),
         6 => format!("r can {deltas}"),
         _ => format!(
             "r step {} ( {} ) {}",

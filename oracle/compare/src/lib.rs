@@ -12,6 +12,7 @@ mod ordinary;
 mod parts;
 mod pokes;
 pub mod programs;
+mod readers;
 mod runs;
 pub mod sample;
 pub mod script;

@@ -4,7 +4,7 @@ use crate::graph::{Bound, Kind, Limit, expression, limits_text, posts_text};
 use crate::maker::{Line, Maker};
 
 /// Lines that stay harmless (no new part of a graph) when a token is lost or doubled.
-const BASES: [&str; 34] = [
+const BASES: [&str; 41] = [
     "g var b0",
     "g clock",
     "g action",
@@ -32,6 +32,13 @@ const BASES: [&str; 34] = [
     "r list 0",
     "r solo 4294967295",
     "r show",
+    "g kind 99",
+    "r value 99",
+    "r clock 99",
+    "r places",
+    "type { v0 #1 + } ib",
+    "draws { ? ? & }",
+    "eval { v0 v1 < } ( i7 i-7 ) 18446744073709551615",
     "range =1 !2 has 3",
     "range * =4294967295 shift 1",
     "range !0 * has 0",
@@ -42,7 +49,7 @@ const BASES: [&str; 34] = [
 ];
 
 /// Whole lines, each wrong (or just right) in its own way.
-const ODD: [&str; 66] = [
+const ODD: [&str; 84] = [
     "g",
     "r",
     "range",
@@ -109,6 +116,24 @@ const ODD: [&str; 66] = [
     "r wait",
     "r wait -1",
     "r list e",
+    "g kind",
+    "g kind e",
+    "r value",
+    "r value v0",
+    "r clock -1",
+    "r places 0",
+    "type",
+    "type { t }",
+    "type { t } bo",
+    "type { t } b-",
+    "type { t } b i",
+    "type - { t }",
+    "draws { x14 }",
+    "draws { ? } -",
+    "eval { t } ( )",
+    "eval { t } 0 ( )",
+    "eval { t } ( t ) 0",
+    "eval ( ) 0 { t }",
 ];
 
 /// Lines of the layer above, which this one does not answer.
@@ -209,7 +234,7 @@ impl Maker<'_> {
             "-0",
             "",
         ]);
-        let line = match self.chance.below(9) {
+        let line = match self.chance.below(12) {
             0 => format!("r can {number}"),
             1 => format!("r list {number}"),
             2 => format!("g process {number}"),
@@ -218,6 +243,9 @@ impl Maker<'_> {
             5 => format!("r step {number} ( 99 ) 0"),
             6 => format!("r step 99 ( 99 ) {word}"),
             7 => format!("poke g {number} {word}"),
+            8 => format!("r value {number}"),
+            9 => format!("eval {{ v{number} }} ( i{number} ) {word}"),
+            10 => format!("g kind {number}"),
             _ => format!("g effect 99 99 {{ #{number} #-{number} + v{number} }}"),
         };
         line.into_bytes()
@@ -230,7 +258,7 @@ impl Maker<'_> {
             low: Bound::Absent,
             high: Bound::Absent,
         };
-        match self.chance.below(8) {
+        match self.chance.below(10) {
             0 => {
                 let count = *self.chance.pick(&[99, 100, 101]);
                 let items = vec![crate::graph::Item::Nothing; count];
@@ -249,6 +277,14 @@ impl Maker<'_> {
                 format!("r step 99 {} 0", posts_text(&vec![0; count]))
             }
             4 => format!("g send{}", " { t }".repeat(*self.chance.pick(&[5, 6, 7]))),
+            8 => format!(
+                "type {{ v15 }} {}",
+                "i".repeat(*self.chance.pick(&[15, 16, 17]))
+            ),
+            9 => format!(
+                "eval {{ v15 v16 = }} ({} ) 0",
+                " b1".repeat(*self.chance.pick(&[15, 16, 17]))
+            ),
             5 => format!("g receive{}", " 0".repeat(*self.chance.pick(&[5, 6, 7]))),
             6 => format!(
                 "r receive 99 ( 99 ){}",

@@ -155,7 +155,7 @@ impl Maker<'_> {
         }
     }
 
-    fn draw_word(&mut self) -> u64 {
+    pub fn draw_word(&mut self) -> u64 {
         match self.chance.below(8) {
             0 => 0,
             1 => u64::MAX,
@@ -347,7 +347,7 @@ impl Maker<'_> {
     }
 
     pub fn question(&mut self) {
-        match self.chance.below(16) {
+        match self.chance.below(22) {
             0..=2 => {
                 let delta = self.odd_time();
                 self.say_call(format!("r can {delta}"))
@@ -366,6 +366,14 @@ impl Maker<'_> {
                 self.say_call(line)
             }
             14 if self.chance.percent(30) => self.whole_listing(),
+            15..=17 => {
+                let line = self.reader_line();
+                self.say_call(line)
+            }
+            18..=20 => {
+                let line = self.expression_line();
+                self.say_call(line)
+            }
             _ => self.say("r show"),
         };
     }

@@ -196,6 +196,10 @@ impl Maker<'_> {
             if self.chance.percent(5) {
                 self.say("g build");
             }
+            if self.chance.percent(30) {
+                let line = self.reader_line();
+                self.say_call(line);
+            }
         }
         self.start_run();
         let upto = self.wanted;
@@ -206,7 +210,11 @@ impl Maker<'_> {
     fn fill_up(&mut self) {
         while self.lines.len() < SHORTEST.min(self.wanted) && !self.full() {
             if self.places.is_empty() && !self.start_run() {
-                let line = self.range_line();
+                let line = if self.chance.percent(50) {
+                    self.range_line()
+                } else {
+                    self.expression_line()
+                };
                 self.say_call(line);
             } else {
                 self.run_call();

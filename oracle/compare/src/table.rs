@@ -8,7 +8,7 @@ use crate::maker::Line;
 use crate::programs::Mark;
 
 /// The calls, in the order of the table.
-pub const CALLS: [&str; 29] = [
+pub const CALLS: [&str; 36] = [
     "g new",
     "g var",
     "g clock",
@@ -22,6 +22,7 @@ pub const CALLS: [&str; 29] = [
     "g initial",
     "g transition",
     "g auto",
+    "g kind",
     "g build",
     "r new",
     "r step",
@@ -32,9 +33,15 @@ pub const CALLS: [&str; 29] = [
     "r waiting",
     "r list",
     "r solo",
+    "r value",
+    "r clock",
+    "r places",
     "r show",
     "range has",
     "range shift",
+    "type",
+    "draws",
+    "eval",
     "poke g",
     "sum g",
     BAD,
@@ -54,7 +61,7 @@ pub fn call_of(line: &[u8], answer: &[u8]) -> &'static str {
     let name = [tokens[0], tokens.get(second).copied().unwrap_or(b"")].join(&b' ');
     CALLS
         .iter()
-        .find(|call| call.as_bytes() == name)
+        .find(|call| call.as_bytes() == name || call.as_bytes() == tokens[0])
         .copied()
         .unwrap_or(BAD)
 }
@@ -66,6 +73,7 @@ pub enum Answer {
     Yes,
     No,
     End,
+    NoValue,
     Shown,
     Refused(u32),
     Bad,
@@ -80,6 +88,7 @@ pub fn answer_of(answer: &[u8]) -> Answer {
         (Some("yes"), None) => Answer::Yes,
         (Some("no"), None) => Answer::No,
         (Some("end"), None) => Answer::End,
+        (Some("none"), Some(_)) => Answer::NoValue,
         (Some("places"), _) => Answer::Shown,
         (Some("refused"), Some(n)) => n.parse().map_or(Answer::Other, Answer::Refused),
         (Some("bad"), Some("line")) => Answer::Bad,
@@ -221,6 +230,7 @@ impl Table {
             (Answer::Yes, "yes"),
             (Answer::No, "no"),
             (Answer::End, "end"),
+            (Answer::NoValue, "none"),
             (Answer::Shown, "shown"),
         ] {
             let count = self.sum(|call, a| call == name && a == answer).all();
@@ -273,6 +283,7 @@ mod tests {
         assert_eq!(call_of(b"range =1 * shift 4", b"ok =5 *"), "range shift");
         assert_eq!(call_of(b"r step 0 ( 1 ) 0", b"refused 8"), "r step");
         assert_eq!(call_of(b"sum g", b"ok 7"), "sum g");
+        assert_eq!(call_of(b"eval { t } ( ) 0", b"ok b1 0"), "eval");
         assert_eq!(call_of(b"r  new", b"bad line"), BAD);
         assert_eq!(call_of(b"", b"bad line"), BAD);
     }
@@ -281,6 +292,7 @@ mod tests {
     fn answers_are_sorted() {
         assert_eq!(answer_of(b"refused 28"), Answer::Refused(28));
         assert_eq!(answer_of(b"ok b1 i-3"), Answer::Ok);
+        assert_eq!(answer_of(b"none 7"), Answer::NoValue);
         assert_eq!(answer_of(b"places 0 vars clocks"), Answer::Shown);
         assert_eq!(answer_of(b"bad line"), Answer::Bad);
         assert_eq!(answer_of(b""), Answer::Other);

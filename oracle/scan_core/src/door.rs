@@ -4,7 +4,7 @@
 
 use super::super::{Action, Clock, Location, PgError, ProgramGraph, ProgramGraphBuilder, Var};
 use super::ProgramGraphRun;
-use crate::{Expression, Time, Val};
+use crate::{Expression, Time, Type, Val};
 use bumpalo::Bump;
 use rand::Rng;
 
@@ -50,6 +50,10 @@ impl Clock {
 }
 
 impl ProgramGraphBuilder {
+    pub fn open_var_type(&self, var: Var) -> Result<Type, PgError> {
+        self.var_type(var)
+    }
+
     pub fn open_new_send(&mut self, msgs: Vec<Expression<Var>>) -> Result<Action, PgError> {
         self.new_send(msgs)
     }

@@ -17,26 +17,20 @@ returns-2 c = rw (c .before .before .match .keys2) (cc)
 
 returns-3 : tie.Need-returns-3
 unfolding longOf
-returns-3 c = rw (c .before .before .match .keys3) (cc)
+returns-3 c = rw (c .before .before .before .match .keys3) (taken _ (sym (c .before .is .ensures) ∙ c .if1 .taken) refl)
 
 returns-4 : tie.Need-returns-4
 unfolding longOf
-returns-4 c = rw (c .before .before .before .match .keys4) (taken _ (sym (c .before .is .ensures) ∙ c .if1 .taken) refl)
+returns-4 c = rw (c .before .before .before .match .keys3) (passed _ (sym (c .before .is .ensures) ∙ c .if1 .left) refl)
 
 returns-5 : tie.Need-returns-5
 unfolding longOf
-returns-5 c = rw (c .before .before .before .match .keys4) (passed _ (sym (c .before .is .ensures) ∙ c .if1 .left) refl)
-
-returns-6 : tie.Need-returns-6
-unfolding longOf
-returns-6 c = simp (ne-eqb _ _ (c .match .rest .0 .0 .0 .1), ne-eqb _ _ (c .match .rest .0 .0 .1), ne-eqb _ _ (c .match .rest .0 .1), ne-eqb _ _ (c .match .rest .1))
+returns-5 c = simp (ne-eqb _ _ (c .match .rest .0 .0 .1), ne-eqb _ _ (c .match .rest .0 .1), ne-eqb _ _ (c .match .rest .1))
 
 pub longer-spec : {M : Type 1} → statement M
 longer-spec =
     tie.close
     (tie.spec
-    (λ c κs. search needs)
-    (λ c κs. search needs)
     (λ c κs. search needs)
     (λ c κs. search needs)
     (λ c κs. search needs)
@@ -47,5 +41,4 @@ longer-spec =
     returns-2
     returns-3
     returns-4
-    returns-5
-    returns-6)
+    returns-5)

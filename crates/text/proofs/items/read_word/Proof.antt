@@ -1,7 +1,7 @@
 use Prim.Native.Nat.{_-_}
 use mathlib.Core.Path.{_≡_, sym, ap}
 use borrow.Author.Needs.{needs}
-use Rattle.text.specs.declared.items.Symbol.the-variants.{Bad}
+use Rattle.text.specs.declared.items.Symbol.the-variants.{Nothing, Bad}
 use Rattle.text.specs.Items.{symbolOf, symbolWord}
 use Rattle.text.specs.declared.numbers.Number.the-variants.{Is}
 use Rattle.text.proofs.items.read_word.Statement.{statement}
@@ -13,7 +13,9 @@ returns c = rw (sym (c .before .before .before .before .read-symbol .ensures), c
 
 returns-2 : tie.Need-returns-2
 unfolding symbolWord
-returns-2 c = rw (sym (c .before .before .before .read-symbol .ensures), c .before .w .given .1)
+returns-2 c =
+    let e : symbolOf (c .before .before .before .before .args .token .now) ≡ Nothing = cc in
+    rw e
 
 returns-3 : tie.Need-returns-3
 unfolding symbolWord
