@@ -92,7 +92,8 @@ pub fn draws(items: &[u64]) -> usize {
 }
 
 /// The value of any items, if they have one. Every item is evaluated; draws take the lowest bits of the word, also of items
-/// that have no value: those with an operand too few, more than 16 waiting, or not one result.
+/// that have no value: those with an operand too few, more than 16 waiting, or not one result. What is missing has no value,
+/// and nothing made of it has.
 pub fn value_of(items: &[u64], vars: &[Val], word: &mut u64) -> Option<Val> {
     let mut waiting: Vec<Option<Val>> = Vec::new();
     let mut fits = true;
@@ -106,10 +107,7 @@ pub fn value_of(items: &[u64], vars: &[Val], word: &mut u64) -> Option<Val> {
                 *word /= 2;
                 Some(Val::Boolean(bit == 1))
             }
-            Some(Meaning::Operation(operation)) => {
-                fits &= waiting.len() >= takes(operation);
-                computed(operation, &mut waiting)
-            }
+            Some(Meaning::Operation(operation)) => computed(operation, &mut waiting),
         };
         waiting.push(value);
         fits &= waiting.len() <= MOST_OPERANDS;
@@ -117,13 +115,6 @@ pub fn value_of(items: &[u64], vars: &[Val], word: &mut u64) -> Option<Val> {
     match waiting.as_slice() {
         &[value] if fits => value,
         _ => None,
-    }
-}
-
-fn takes(operation: u8) -> usize {
-    match operation {
-        1 | 4 => 1,
-        _ => 2,
     }
 }
 

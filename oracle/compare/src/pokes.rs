@@ -117,7 +117,7 @@ impl Maker<'_> {
         let refused = self.ask("g build") == "refused 32";
         let before = (self.graph.clone(), self.places.clone());
         for _ in 0..self.chance.from_to(1, 5) {
-            match self.chance.below(10) {
+            match self.chance.below(11) {
                 0 if refused || !counted => {
                     let build = self.all_wrong();
                     self.build(build);
@@ -139,6 +139,10 @@ impl Maker<'_> {
                 8 => {
                     let delta = self.odd_time();
                     self.say(format!("r wait {delta}"));
+                }
+                9 => {
+                    let line = self.reader_line();
+                    self.say(line);
                 }
                 _ => self.guided_step(),
             }
