@@ -76,12 +76,12 @@ pub enum Running {
     Places,
 }
 
+/// Of an expression that stands alone.
+const MOST_VARS: usize = 16;
 const MOST_ITEMS: usize = 100;
 const MOST_LIMITS: usize = 16;
 const MOST_POSTS: usize = 8;
 const MOST_OTHERS: usize = 6;
-/// Of an expression that stands alone.
-const MOST_VARS: usize = 16;
 
 /// The call that a line names, if it is a line of the language.
 pub fn read(line: &[u8]) -> Option<Call> {
@@ -116,9 +116,6 @@ impl<'a> Tokens<'a> {
 
     fn call(&mut self) -> Option<Call> {
         match self.next()? {
-            b"g" => self.graph_call(),
-            b"r" => self.run_call(),
-            b"range" => self.range_call(),
             b"type" => Some(Call::Type(self.expression()?, kinds(self.next()?)?)),
             b"draws" => Some(Call::Draws(self.expression()?)),
             b"eval" => Some(Call::Eval(
@@ -126,6 +123,9 @@ impl<'a> Tokens<'a> {
                 self.between(b"(", b")", MOST_VARS, Tokens::value)?,
                 wide(self.next()?)?,
             )),
+            b"g" => self.graph_call(),
+            b"r" => self.run_call(),
+            b"range" => self.range_call(),
             b"poke" => {
                 self.expect(b"g")?;
                 let place = self.number()? as usize;

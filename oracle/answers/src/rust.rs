@@ -136,6 +136,34 @@ pub fn shift(lower: Bound<u32>, upper: Bound<u32>, delta: u32) -> Answer {
     Answer::Range(shifted.start_bound().cloned(), shifted.end_bound().cloned())
 }
 
+/// What the builder says of an expression over variables of these kinds, and the test code of its kind.
+pub fn typed(items: &Items, vars: &[Val]) -> Result<Answer, String> {
+    guarded(|| {
+        let mut builder = ProgramGraphBuilder::new();
+        for val in vars {
+            builder.new_var(*val);
+        }
+        let expression = effect(items, vars);
+        match builder.open_new_send(vec![expression.clone()]) {
+            Ok(_) => Answer::Kind(expression.r#type()),
+            Err(error) => Answer::Refused(number_of(error)),
+        }
+    })
+    .map_err(|outcome| outcome.to_string())
+}
+
+/// The test code's value of a well-typed expression, if it has one.
+pub fn evaluated(items: &Items, vars: &[Val], word: u64) -> Result<Option<Val>, String> {
+    let expression = effect(items, vars);
+    let mut rng = SmallRng::of_word(word);
+    let value = |var: Var| vars[usize::from(var.number())];
+    match guarded(|| expression.eval(&value, Some(&mut rng))) {
+        Ok(val) => Ok(Some(val)),
+        Err(Outcome::NoValue) => Ok(None),
+        Err(outcome) => Err(outcome.to_string()),
+    }
+}
+
 thread_local! {
     static INSIDE: Cell<bool> = const { Cell::new(false) };
 }
@@ -418,34 +446,6 @@ fn limits_of(limits: &[Limit]) -> Vec<(Clock, TimeRange)> {
             )
         })
         .collect()
-}
-
-/// What the builder says of an expression over variables of these kinds, and the test code of its kind.
-pub fn typed(items: &Items, vars: &[Val]) -> Result<Answer, String> {
-    guarded(|| {
-        let mut builder = ProgramGraphBuilder::new();
-        for val in vars {
-            builder.new_var(*val);
-        }
-        let expression = effect(items, vars);
-        match builder.open_new_send(vec![expression.clone()]) {
-            Ok(_) => Answer::Kind(expression.r#type()),
-            Err(error) => Answer::Refused(number_of(error)),
-        }
-    })
-    .map_err(|outcome| outcome.to_string())
-}
-
-/// The test code's value of a well-typed expression, if it has one.
-pub fn evaluated(items: &Items, vars: &[Val], word: u64) -> Result<Option<Val>, String> {
-    let expression = effect(items, vars);
-    let mut rng = SmallRng::of_word(word);
-    let value = |var: Var| vars[usize::from(var.number())];
-    match guarded(|| expression.eval(&value, Some(&mut rng))) {
-        Ok(val) => Ok(Some(val)),
-        Err(Outcome::NoValue) => Ok(None),
-        Err(outcome) => Err(outcome.to_string()),
-    }
 }
 
 fn effect(items: &Items, vars: &[Val]) -> Expression<Var> {

@@ -49,19 +49,29 @@ pub const CALLS: [&str; 36] = [
 
 pub const BAD: &str = "bad line";
 
+/// Calls that a line's first word names.
+const ALONE: [&str; 3] = ["type", "draws", "eval"];
+
 /// Those that move a run.
 const MOVES: [&str; 4] = ["r step", "r send", "r receive", "r wait"];
+
+fn starts(line: &[u8], word: &str) -> bool {
+    line.split(|b| *b == b' ').next() == Some(word.as_bytes())
+}
 
 pub fn call_of(line: &[u8], answer: &[u8]) -> &'static str {
     if answer == BAD.as_bytes() {
         return BAD;
+    }
+    if let Some(call) = ALONE.into_iter().find(|call| starts(line, call)) {
+        return call;
     }
     let tokens: Vec<&[u8]> = line.split(|b| *b == b' ').collect();
     let second = if tokens[0] == b"range" { 3 } else { 1 };
     let name = [tokens[0], tokens.get(second).copied().unwrap_or(b"")].join(&b' ');
     CALLS
         .iter()
-        .find(|call| call.as_bytes() == name || call.as_bytes() == tokens[0])
+        .find(|call| call.as_bytes() == name)
         .copied()
         .unwrap_or(BAD)
 }
@@ -85,10 +95,10 @@ pub fn answer_of(answer: &[u8]) -> Answer {
     let mut tokens = text.split(' ');
     match (tokens.next(), tokens.next()) {
         (Some("ok"), _) => Answer::Ok,
+        (Some("none"), Some(_)) => Answer::NoValue,
         (Some("yes"), None) => Answer::Yes,
         (Some("no"), None) => Answer::No,
         (Some("end"), None) => Answer::End,
-        (Some("none"), Some(_)) => Answer::NoValue,
         (Some("places"), _) => Answer::Shown,
         (Some("refused"), Some(n)) => n.parse().map_or(Answer::Other, Answer::Refused),
         (Some("bad"), Some("line")) => Answer::Bad,
