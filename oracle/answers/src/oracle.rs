@@ -6,6 +6,7 @@ use crate::call::{self, Building, Call, Running};
 use crate::expression;
 use crate::running::{self, Run};
 use crate::rust::{self, Outcome, Rust};
+use crate::system_oracle::Systems;
 use crate::table::{Action, CLOCKS, Graph, PROCESSES, Table, VARIABLES, contains};
 use std::ops::Bound;
 
@@ -30,7 +31,7 @@ pub struct Reply {
 #[derive(Debug)]
 pub struct Disagreement(pub String);
 
-type Replied = Result<Reply, Disagreement>;
+pub(crate) type Replied = Result<Reply, Disagreement>;
 
 pub struct Oracle {
     table: Table,
@@ -43,6 +44,7 @@ pub struct Oracle {
     compared: bool,
     /// Whether to ask the Rust also where it can only depart.
     departures: bool,
+    systems: Systems,
 }
 
 impl Oracle {
@@ -54,6 +56,7 @@ impl Oracle {
             run: Run::zeros(),
             compared: false,
             departures,
+            systems: Systems::new(),
         }
     }
 
@@ -79,6 +82,7 @@ impl Oracle {
             }
             Call::Poke(place, word) => self.poke(place, word),
             Call::Sum => by_rules(Answer::Sum(self.table.sum())),
+            Call::System(call) => self.systems.answer(&call),
         }
     }
 
@@ -315,7 +319,7 @@ fn shifted(bound: Bound<u32>, delta: u32) -> Bound<u32> {
     }
 }
 
-fn by_rules(answer: Answer) -> Replied {
+pub(crate) fn by_rules(answer: Answer) -> Replied {
     Ok(Reply {
         mark: Mark::Rules,
         answer,
@@ -323,7 +327,7 @@ fn by_rules(answer: Answer) -> Replied {
     })
 }
 
-fn by_both(answer: Answer) -> Replied {
+pub(crate) fn by_both(answer: Answer) -> Replied {
     Ok(Reply {
         mark: Mark::Rust,
         answer,
@@ -331,7 +335,7 @@ fn by_both(answer: Answer) -> Replied {
     })
 }
 
-fn departing(answer: Answer, theirs: impl ToString) -> Replied {
+pub(crate) fn departing(answer: Answer, theirs: impl ToString) -> Replied {
     Ok(Reply {
         mark: Mark::Rules,
         answer,
@@ -339,7 +343,7 @@ fn departing(answer: Answer, theirs: impl ToString) -> Replied {
     })
 }
 
-fn both(ours: Answer, theirs: &Answer) -> Replied {
+pub(crate) fn both(ours: Answer, theirs: &Answer) -> Replied {
     if ours == *theirs {
         by_both(ours)
     } else {
@@ -347,7 +351,7 @@ fn both(ours: Answer, theirs: &Answer) -> Replied {
     }
 }
 
-fn differs(
+pub(crate) fn differs(
     what: impl std::fmt::Debug,
     ours: &impl std::fmt::Debug,
     theirs: impl std::fmt::Debug,

@@ -4,7 +4,7 @@
 
 use super::super::{Action, Clock, Location, PgError, ProgramGraph, ProgramGraphBuilder, Var};
 use super::ProgramGraphRun;
-use crate::{Expression, Time, Val};
+use crate::{Expression, Time, Type, Val};
 use bumpalo::Bump;
 use rand::Rng;
 
@@ -56,6 +56,10 @@ impl ProgramGraphBuilder {
 
     pub fn open_new_receive(&mut self, vars: Vec<Var>) -> Result<Action, PgError> {
         self.new_receive(vars)
+    }
+
+    pub fn open_var_type(&self, var: Var) -> Result<Type, PgError> {
+        self.var_type(var)
     }
 }
 
