@@ -321,7 +321,7 @@ impl<'a> SystemMaker<'a> {
             list.push(Build::Transition(pre, 0, (pre + 1) % locations, None, None));
             for action in (1..actions).chain([EPSILON]) {
                 let share = match action {
-                    EPSILON => 15,
+                    EPSILON => 20,
                     _ if several => 90,
                     _ => 75,
                 };
@@ -354,7 +354,11 @@ impl<'a> SystemMaker<'a> {
         } else {
             None
         };
-        Build::Transition(pre, action, post, guard, limits)
+        if action == EPSILON && self.maker.chance.percent(60) {
+            Build::Auto(pre, post, guard, limits)
+        } else {
+            Build::Transition(pre, action, post, guard, limits)
+        }
     }
 }
 

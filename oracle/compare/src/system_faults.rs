@@ -1,7 +1,7 @@
 //! Lines that building a system refuses: unknown graphs and channels, messages of other kinds, channels that are too large, full
 //! tables.
 
-use crate::graph::{Build, Items, Kind};
+use crate::graph::{Build, EPSILON, Items, Kind, Limit, Val};
 use crate::system_building::{SystemMaker, communication_text};
 use crate::system_model::{Capacity, Channel, Message};
 
@@ -41,6 +41,18 @@ impl SystemMaker<'_> {
                 ]);
                 self.maker.say(format!("s {g} {line}"));
             }
+            _ => self.odd_part(),
+        }
+    }
+
+    /// Any line that builds.
+    pub fn building_line(&mut self) {
+        match self.maker.chance.below(6) {
+            0 => {
+                self.maker.say("s graph");
+            }
+            1 => self.odd_channel(),
+            2..=3 => self.odd_message(),
             _ => self.odd_part(),
         }
     }
@@ -160,6 +172,37 @@ impl SystemMaker<'_> {
         }
     }
 
+    /// A graph of the system up to each of its sizes and one past it.
+    fn graph_sizes(&mut self, g: usize) {
+        self.at(g);
+        let chance = &mut self.maker.chance;
+        let parts = match chance.below(5) {
+            0 => (17, Build::Var(Val::Int(1))),
+            1 => (9, Build::Clock),
+            2 => (33, Build::Location(None)),
+            3 => (5, Build::Initial(None)),
+            _ => (5, Build::Process(0)),
+        };
+        for _ in 0..parts.0 {
+            self.build(g, parts.1.clone());
+        }
+        let limits: Vec<Limit> = self.maker.limits(9);
+        self.build(g, Build::Location(Some(limits.clone())));
+        self.build(g, Build::Transition(0, EPSILON, 0, None, Some(limits)));
+        if self.maker.chance.percent(25) {
+            for _ in 0..129 {
+                self.build(g, Build::Auto(0, 0, None, None));
+            }
+        }
+        let plain =
+            (0..self.system.entries[g].len()).find(|a| self.system.entries[g][*a].is_none());
+        if let Some(action) = plain {
+            for _ in 0..17 {
+                self.build(g, Build::Reset(action as u32, 0));
+            }
+        }
+    }
+
     /// Graphs, channels and actions up to their number and one past it.
     pub fn sizes(&mut self) {
         while self.system.graphs.len() < 8 && self.new_graph() {}
@@ -177,6 +220,7 @@ impl SystemMaker<'_> {
         }
         let g = self.maker.chance.below(8);
         self.at(g);
+        self.build(g, Build::Action);
         while self.system.graphs[g].actions.len() < 32 && !self.full() {
             let q = self.maker.chance.below(8);
             let kind = *self
@@ -198,5 +242,6 @@ impl SystemMaker<'_> {
                 self.build(g, Build::Initial(None));
             }
         }
+        self.graph_sizes(g);
     }
 }

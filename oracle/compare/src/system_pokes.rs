@@ -142,8 +142,13 @@ impl SystemMaker<'_> {
             self.maker.say(format!("sum {letter}"));
         }
         self.poke(letter, old.place, word);
+        // A badly formed table refuses every call, also those that build.
+        let refused = letter == 's' && self.maker.ask("s build") == "refused 32";
         for _ in 0..self.maker.chance.from_to(1, 4) {
-            self.poked_call();
+            match refused && self.maker.chance.percent(50) {
+                true => self.building_line(),
+                false => self.poked_call(),
+            }
         }
         self.poke(letter, old.place, old.word);
         if sums {

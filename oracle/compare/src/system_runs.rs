@@ -495,6 +495,13 @@ impl SystemMaker<'_> {
 
     /// An entry that is there, or the first past the end, or any.
     fn queue_question(&mut self, q: u32) {
+        let filled = (0..self.rings.len()).find(|q| self.rings[*q].0 != self.rings[*q].1);
+        let q = match filled {
+            Some(filled) if (q as usize) < self.rings.len() && self.maker.chance.percent(70) => {
+                filled as u32
+            }
+            _ => q,
+        };
         let stored = self
             .rings
             .get(q as usize)

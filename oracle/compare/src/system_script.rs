@@ -217,7 +217,7 @@ impl SystemMaker<'_> {
         let graphs = self.maker.chance.from_to(1, 2);
         let channels = self.maker.chance.from_to(1, 3);
         self.ordinary_system(graphs, channels);
-        for _ in 0..self.maker.chance.from_to(6, 14) {
+        for _ in 0..self.maker.chance.from_to(10, 20) {
             let count = self.maker.chance.from_to(2, 8);
             self.faults_between_sums(count);
         }
