@@ -25,6 +25,9 @@ compare --random-bytes N --seed S --port CMD [--oracle CMD]
 
 With --systems the scripts are about systems, else about graphs. --oracle-alone puts the oracle beside itself. CMD is a command and its options, separated by blanks. Without --oracle it is the `oracle` beside this program.";
 
+/// Lines that are compared by their change, if at all.
+const SUMS: [&[u8]; 3] = [b"sum g", b"sum s", b"sum t"];
+
 /// How long a script is cut down. One that hangs on a count of many lines would take hours.
 const CUTTING: Duration = Duration::from_secs(180);
 
@@ -322,7 +325,7 @@ fn fixed(options: &Options, wanted: usize) -> Result<bool, String> {
     for seed in options.seeds()? {
         let mut lines = options.made(&oracle, seed)?;
         if !options.exact {
-            lines.retain(|line| !line.starts_with(b"sum "));
+            lines.retain(|line| !SUMS.contains(&line.as_slice()));
         }
         let answers = answered(&oracle, &lines)?;
         scripts.push(Answered { lines, answers });
