@@ -228,18 +228,26 @@ impl SystemMaker<'_> {
         let graph = self.any_graph();
         match self.near_way(graph, None) {
             Some(mut way) => {
-                // A false post or one too many, where the channel may object first.
-                if way.posts.is_empty() {
-                } else if self.maker.chance.percent(12) {
-                    way.posts[0] = self.maker.odd_number(3);
-                } else if self.maker.chance.percent(12) {
-                    way.posts.push(0);
-                } else if self.maker.chance.percent(6) {
-                    way.posts.clear();
-                }
+                self.spoil_posts(&mut way.posts);
                 self.take(&way);
             }
             None => self.random_step(),
+        }
+    }
+
+    /// Now and then an unknown post, a wrong number of them, or both: the channel may object first, and 7 comes before 8.
+    fn spoil_posts(&mut self, posts: &mut Vec<u32>) {
+        let odd = self.maker.odd_number(3);
+        let kind = self.maker.chance.below(100);
+        match (kind, posts.first_mut()) {
+            (0..=9 | 30..=33, Some(post)) => *post = odd,
+            (10..=15, _) => posts.push(0),
+            (16..=21, _) => posts.push(odd),
+            (22..=27, _) => posts.clear(),
+            _ => {}
+        }
+        if (30..=33).contains(&kind) {
+            posts.push(0);
         }
     }
 
