@@ -316,11 +316,13 @@ fn ceiling_agrees(channel: &Channel) -> Result<(), Disagreement> {
     };
     let ours = channel.ceiling();
     let theirs = system_rust::filled(channel.width(), capacity, ROOM);
-    if theirs == usize::try_from(ours).ok().filter(|&most| most <= ROOM) {
+    let ceiling = usize::try_from(ours).ok().filter(|&most| most <= ROOM);
+    if theirs == ceiling && theirs.is_none() == channel.too_large() {
         return Ok(());
     }
     Err(Disagreement(format!(
-        "{channel:?}: by the rules its ceiling is {ours}, the Rust takes {theirs:?}"
+        "{channel:?}: by the rules its ceiling is {ours}, the Rust takes {theirs:?}; 31: {}",
+        channel.too_large()
     )))
 }
 
@@ -465,18 +467,19 @@ impl Departure {
                     SystemOutcome::Failed(Outcome::Panicked(_), Left::MessageGone)
                 )
             }
-            Departure::NoRoom => {
-                let sent = matches!(
-                    theirs,
-                    SystemOutcome::Answered(
-                        Answer::System(SystemAnswer::Event(_, _, Kind::Send, _)),
-                        _
-                    )
-                );
-                sent || panics || no_value || refused(8)
-            }
+            Departure::NoRoom => overfull(theirs) || panics || no_value || refused(8),
         }
     }
+}
+
+/// Whether the Rust has sent, and a queue now holds more than there is room for here.
+fn overfull(theirs: &SystemOutcome) -> bool {
+    let SystemOutcome::Answered(Answer::System(SystemAnswer::Event(_, _, Kind::Send, _)), parts) =
+        theirs
+    else {
+        return false;
+    };
+    parts.queues.iter().any(|queue| queue.len() > ROOM)
 }
 
 /// Whether an accepted step draws.
