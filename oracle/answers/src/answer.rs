@@ -1,5 +1,6 @@
 //! Answers, and how they are written.
 
+use crate::system_answer::SystemAnswer;
 use scan_core::{Type, Val};
 use std::{fmt, ops::Bound};
 
@@ -28,6 +29,7 @@ pub enum Answer {
     Range(Bound<u32>, Bound<u32>),
     Sum(u64),
     Run(Vec<u32>, Vec<Val>, Vec<u32>),
+    System(SystemAnswer),
     BadLine,
 }
 
@@ -38,7 +40,10 @@ impl Answer {
 
     /// An answer after which something may have changed.
     pub fn accepted(&self) -> bool {
-        matches!(self, Answer::Ok | Answer::Number(_) | Answer::Values(_))
+        match self {
+            Answer::System(answer) => answer.accepted(),
+            _ => matches!(self, Answer::Ok | Answer::Number(_) | Answer::Values(_)),
+        }
     }
 }
 
@@ -77,13 +82,14 @@ impl fmt::Display for Answer {
                 f.write_str(" clocks")?;
                 clocks.iter().try_for_each(|clock| write!(f, " {clock}"))
             }
+            Answer::System(answer) => answer.fmt(f),
             Answer::BadLine => f.write_str("bad line"),
         }
     }
 }
 
 /// A value as the line language writes it.
-struct Shown(Val);
+pub(crate) struct Shown(pub(crate) Val);
 
 impl fmt::Display for Shown {
     fn fmt(&self, f: &mut fmt::Formatter<'_>) -> fmt::Result {

@@ -2,6 +2,7 @@
 
 use crate::answer::EPSILON;
 use crate::expression::{BOOLEAN, INTEGER, VARIABLE};
+use crate::system_call::SystemCall;
 use crate::table::WORDS;
 use scan_core::{Type, Val};
 use std::ops::Bound;
@@ -32,6 +33,8 @@ pub enum Call {
     Eval(Items, Vec<Val>, u64),
     Poke(usize, u64),
     Sum,
+    /// Of the channel layer.
+    System(SystemCall),
 }
 
 /// A list of limits is absent in the untimed forms of a call.
@@ -80,8 +83,8 @@ pub enum Running {
 const MOST_VARS: usize = 16;
 const MOST_ITEMS: usize = 100;
 const MOST_LIMITS: usize = 16;
-const MOST_POSTS: usize = 8;
-const MOST_OTHERS: usize = 6;
+pub(crate) const MOST_POSTS: usize = 8;
+pub(crate) const MOST_OTHERS: usize = 6;
 
 /// The call that a line names, if it is a line of the language.
 pub fn read(line: &[u8]) -> Option<Call> {
@@ -91,12 +94,12 @@ pub fn read(line: &[u8]) -> Option<Call> {
     rest.ended().then_some(call)
 }
 
-struct Tokens<'a> {
+pub(crate) struct Tokens<'a> {
     tokens: &'a [&'a [u8]],
 }
 
 impl<'a> Tokens<'a> {
-    fn next(&mut self) -> Option<&'a [u8]> {
+    pub(crate) fn next(&mut self) -> Option<&'a [u8]> {
         let (first, rest) = self.tokens.split_first()?;
         self.tokens = rest;
         Some(first)
@@ -110,7 +113,7 @@ impl<'a> Tokens<'a> {
         self.tokens.first() == Some(&token)
     }
 
-    fn expect(&mut self, token: &[u8]) -> Option<()> {
+    pub(crate) fn expect(&mut self, token: &[u8]) -> Option<()> {
         (self.next()? == token).then_some(())
     }
 
@@ -126,12 +129,16 @@ impl<'a> Tokens<'a> {
             b"g" => self.graph_call(),
             b"r" => self.run_call(),
             b"range" => self.range_call(),
+            b"s" => self.system_call().map(Call::System),
+            b"t" => self.state_call().map(Call::System),
+            b"poke" if !self.comes(b"g") => self.system_poke().map(Call::System),
             b"poke" => {
                 self.expect(b"g")?;
                 let place = self.number()? as usize;
                 let word = wide(self.next()?)?;
                 (place < WORDS).then_some(Call::Poke(place, word))
             }
+            b"sum" if !self.comes(b"g") => self.system_sum().map(Call::System),
             b"sum" => {
                 self.expect(b"g")?;
                 Some(Call::Sum)
@@ -141,10 +148,17 @@ impl<'a> Tokens<'a> {
     }
 
     fn graph_call(&mut self) -> Option<Call> {
-        let building = match self.next()? {
-            b"new" => return Some(Call::NewGraph),
-            b"build" => return Some(Call::Build),
-            b"kind" => return Some(Call::Kind(self.number()?)),
+        match self.next()? {
+            b"new" => Some(Call::NewGraph),
+            b"build" => Some(Call::Build),
+            b"kind" => Some(Call::Kind(self.number()?)),
+            word => self.building(word).map(Call::Building),
+        }
+    }
+
+    /// A call that adds to a graph, from its name on.
+    pub(crate) fn building(&mut self, word: &[u8]) -> Option<Building> {
+        let building = match word {
             b"var" => Building::Var(self.value()?),
             b"clock" => Building::Clock,
             b"action" => Building::Action,
@@ -165,7 +179,7 @@ impl<'a> Tokens<'a> {
             }
             _ => return None,
         };
-        Some(Call::Building(building))
+        Some(building)
     }
 
     fn transition(
@@ -219,7 +233,7 @@ impl<'a> Tokens<'a> {
     }
 
     /// None or more, up to the end of the line.
-    fn until_end<T>(&mut self, one: fn(&mut Self) -> Option<T>) -> Option<Vec<T>> {
+    pub(crate) fn until_end<T>(&mut self, one: fn(&mut Self) -> Option<T>) -> Option<Vec<T>> {
         let mut all = Vec::new();
         while !self.ended() {
             all.push(one(self)?);
@@ -228,7 +242,7 @@ impl<'a> Tokens<'a> {
     }
 
     /// None or more between two brackets.
-    fn between<T>(
+    pub(crate) fn between<T>(
         &mut self,
         open: &[u8],
         close: &[u8],
@@ -244,7 +258,7 @@ impl<'a> Tokens<'a> {
         (all.len() <= most).then_some(all)
     }
 
-    fn number(&mut self) -> Option<u32> {
+    pub(crate) fn number(&mut self) -> Option<u32> {
         number(self.next()?)
     }
 
@@ -301,7 +315,7 @@ impl<'a> Tokens<'a> {
         self.expression().map(Some)
     }
 
-    fn expression(&mut self) -> Option<Items> {
+    pub(crate) fn expression(&mut self) -> Option<Items> {
         self.between(b"{", b"}", MOST_ITEMS, |tokens| item(tokens.next()?))
     }
 }
@@ -354,11 +368,11 @@ fn digits(token: &[u8], most: usize) -> Option<u128> {
     })
 }
 
-fn number(token: &[u8]) -> Option<u32> {
+pub(crate) fn number(token: &[u8]) -> Option<u32> {
     digits(token, 10)?.try_into().ok()
 }
 
-fn wide(token: &[u8]) -> Option<u64> {
+pub(crate) fn wide(token: &[u8]) -> Option<u64> {
     digits(token, 20)?.try_into().ok()
 }
 

@@ -7,6 +7,7 @@ use crate::call::{self, Building, Call, Running};
 use crate::expression;
 use crate::running::{self, Run};
 use crate::rust::{self, Outcome, Rust};
+use crate::system_oracle::Systems;
 use crate::table::{Action, CLOCKS, Graph, PROCESSES, Table, VARIABLES, contains};
 use std::ops::Bound;
 
@@ -44,6 +45,7 @@ pub struct Oracle {
     compared: bool,
     /// Whether to ask the Rust also where it can only depart.
     departures: bool,
+    systems: Systems,
 }
 
 impl Oracle {
@@ -55,6 +57,7 @@ impl Oracle {
             run: Run::zeros(),
             compared: false,
             departures,
+            systems: Systems::new(),
         }
     }
 
@@ -84,6 +87,7 @@ impl Oracle {
             Call::Eval(items, vals, word) => alone::eval(&items, &vals, word),
             Call::Poke(place, word) => self.poke(place, word),
             Call::Sum => by_rules(Answer::Sum(self.table.sum())),
+            Call::System(call) => self.systems.answer(&call),
         }
     }
 
@@ -342,7 +346,7 @@ pub(crate) fn by_rules(answer: Answer) -> Replied {
     })
 }
 
-fn by_both(answer: Answer) -> Replied {
+pub(crate) fn by_both(answer: Answer) -> Replied {
     Ok(Reply {
         mark: Mark::Rust,
         answer,
@@ -350,7 +354,7 @@ fn by_both(answer: Answer) -> Replied {
     })
 }
 
-fn departing(answer: Answer, theirs: impl ToString) -> Replied {
+pub(crate) fn departing(answer: Answer, theirs: impl ToString) -> Replied {
     Ok(Reply {
         mark: Mark::Rules,
         answer,
@@ -358,7 +362,7 @@ fn departing(answer: Answer, theirs: impl ToString) -> Replied {
     })
 }
 
-fn both(ours: Answer, theirs: &Answer) -> Replied {
+pub(crate) fn both(ours: Answer, theirs: &Answer) -> Replied {
     if ours == *theirs {
         by_both(ours)
     } else {

@@ -102,6 +102,11 @@ pub fn call(graph: &Graph, run: &Run, running: &Running) -> (Answer, Run) {
     }
 }
 
+/// The listing: action, process, post.
+pub fn entries(graph: &Graph, run: &Run) -> Vec<(u32, u32, u32)> {
+    On { graph, run }.entries().collect()
+}
+
 /// Whether a clock passes 32 bits in a wait. The Rust has no rule for it.
 pub fn overflows(run: &Run, delta: u32) -> bool {
     run.used_clocks()
@@ -292,7 +297,14 @@ impl On<'_> {
 
     /// Entry k of the listing.
     fn entry(&self, k: u32) -> Answer {
-        let mut entries = self.shared_actions().flat_map(|action| {
+        match self.entries().nth(k as usize) {
+            Some((action, process, post)) => Answer::Entry(action, process, post),
+            None => Answer::End,
+        }
+    }
+
+    fn entries(&self) -> impl Iterator<Item = (u32, u32, u32)> {
+        self.shared_actions().flat_map(move |action| {
             let resets = match self.graph.actions.get(action as usize) {
                 Some(Action::Plain { resets, .. }) => resets.as_slice(),
                 _ => &[],
@@ -302,10 +314,9 @@ impl On<'_> {
                 .flat_map(move |(process, &place)| {
                     self.from(place, action)
                         .filter(|t| self.passes(t, resets))
-                        .map(move |t| Answer::Entry(action, process, t.post))
+                        .map(move |t| (action, process, t.post))
                 })
-        });
-        entries.nth(k as usize).unwrap_or(Answer::End)
+        })
     }
 }
 

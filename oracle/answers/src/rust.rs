@@ -169,7 +169,7 @@ thread_local! {
 }
 
 /// Catches what unwinds out of the Rust, without a message on standard error.
-fn guarded<T>(call: impl FnOnce() -> T) -> Result<T, Outcome> {
+pub(crate) fn guarded<T>(call: impl FnOnce() -> T) -> Result<T, Outcome> {
     static HOOK: Once = Once::new();
     HOOK.call_once(|| {
         let usual = panic::take_hook();
@@ -193,7 +193,7 @@ fn guarded<T>(call: impl FnOnce() -> T) -> Result<T, Outcome> {
 }
 
 /// The calls that build a graph, in stored order.
-fn parts(graph: &Graph) -> Vec<Building> {
+pub(crate) fn parts(graph: &Graph) -> Vec<Building> {
     let mut parts: Vec<Building> = graph.vars.iter().copied().map(Building::Var).collect();
     parts.extend((0..graph.clocks).map(|_| Building::Clock));
     parts.extend(
@@ -230,7 +230,11 @@ fn parts(graph: &Graph) -> Vec<Building> {
     parts
 }
 
-fn added(builder: &mut ProgramGraphBuilder, building: &Building, vars: &[Val]) -> Answer {
+pub(crate) fn added(
+    builder: &mut ProgramGraphBuilder,
+    building: &Building,
+    vars: &[Val],
+) -> Answer {
     match building {
         Building::Var(val) => Answer::Number(builder.new_var(*val).number().into()),
         Building::Clock => Answer::Number(builder.new_clock().number().into()),
@@ -366,7 +370,7 @@ fn solo_entry(instance: &ProgramGraphRun, k: u32) -> Answer {
 }
 
 /// A run as plain data. What stands unused is as it was before.
-fn plain(instance: &ProgramGraphRun, before: &Run) -> Run {
+pub(crate) fn plain(instance: &ProgramGraphRun, before: &Run) -> Run {
     let (places, vars, clocks) = instance.parts();
     let mut run = before.clone();
     (run.processes, run.variables, run.timers) = (places.len(), vars.len(), clocks.len());
@@ -392,7 +396,7 @@ fn numbered(result: Result<u32, PgError>) -> Answer {
     }
 }
 
-fn number_of(error: PgError) -> u32 {
+pub(crate) fn number_of(error: PgError) -> u32 {
     match error {
         PgError::MissingAction(_) => 1,
         PgError::MissingClock(_) => 2,
@@ -416,7 +420,7 @@ fn number_of(error: PgError) -> u32 {
     }
 }
 
-fn locations_of(numbers: &[u32]) -> Vec<Location> {
+pub(crate) fn locations_of(numbers: &[u32]) -> Vec<Location> {
     numbers
         .iter()
         .map(|&number| Location::numbered(number))
@@ -424,11 +428,11 @@ fn locations_of(numbers: &[u32]) -> Vec<Location> {
 }
 
 /// The Rust has 16 bits for variables and clocks. A larger number names nothing, and the largest of 16 bits names nothing too.
-fn cut(number: u32) -> u16 {
+pub(crate) fn cut(number: u32) -> u16 {
     u16::try_from(number).unwrap_or(u16::MAX)
 }
 
-fn var_of(number: u32) -> Var {
+pub(crate) fn var_of(number: u32) -> Var {
     Var::numbered(cut(number))
 }
 
@@ -448,7 +452,7 @@ fn limits_of(limits: &[Limit]) -> Vec<(Clock, TimeRange)> {
         .collect()
 }
 
-fn effect(items: &Items, vars: &[Val]) -> Expression<Var> {
+pub(crate) fn effect(items: &Items, vars: &[Val]) -> Expression<Var> {
     Expression::from_items(&items_of(items, vars))
 }
 

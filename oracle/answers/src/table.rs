@@ -150,6 +150,10 @@ impl Table {
         })
     }
 
+    pub fn words(&self) -> &[u64] {
+        &self.words
+    }
+
     /// A count, cut at its table size.
     pub fn cut_count(&self, part: usize) -> usize {
         self.words[part].min(SIZES[part] as u64) as usize

@@ -1,5 +1,6 @@
 //! Two programs on the same lines: the first line at which they differ.
 
+use std::collections::BTreeMap;
 use std::thread;
 use std::time::Duration;
 
@@ -86,7 +87,7 @@ impl Pair {
     ) -> Option<Difference> {
         let ours = port.answers();
         let theirs: Vec<&[u8]> = theirs.iter().map(|(_, answer)| answer.as_slice()).collect();
-        let mut last = (None, None);
+        let mut last: BTreeMap<&[u8], (Line, Line)> = BTreeMap::new();
         for (k, line) in lines.iter().enumerate() {
             let (Some(a), Some(b)) = (ours.get(k), theirs.get(k)) else {
                 return Some(Difference {
@@ -95,14 +96,17 @@ impl Pair {
                     oracle: shown(&theirs, k, oracle),
                 });
             };
-            if line == b"g new" {
-                last = (None, None);
+            // A new graph or system: its sums have nothing before them.
+            match line.as_slice() {
+                b"g new" => last.retain(|sum, _| *sum != b"sum g"),
+                b"s new" => last.retain(|sum, _| *sum == b"sum g"),
+                _ => {}
             }
-            let equal = if self.sums == Sums::Change && line == b"sum g" && is_sum(a) && is_sum(b) {
-                let now = (Some(a.to_vec()), Some(b.to_vec()));
-                let equal = last.0.is_none() || (last.0 == now.0) == (last.1 == now.1);
-                last = now;
-                equal
+            let sum = line.starts_with(b"sum ") && is_sum(a) && is_sum(b);
+            let equal = if self.sums == Sums::Change && sum {
+                let now = (a.to_vec(), b.to_vec());
+                let before = last.insert(line, now.clone());
+                before.is_none_or(|before| (before.0 == now.0) == (before.1 == now.1))
             } else {
                 a == b
             };

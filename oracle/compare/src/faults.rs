@@ -93,12 +93,12 @@ impl Maker<'_> {
         limits
     }
 
-    fn faulty_message(&mut self) -> Vec<Items> {
+    pub fn faulty_message(&mut self) -> Vec<Items> {
         let count = *self.chance.pick(&[0, 1, 1, 2, 3, 4, 4, 5, 6]);
         (0..count).map(|_| self.maybe_expression()).collect()
     }
 
-    fn faulty_vars(&mut self) -> Vec<u32> {
+    pub fn faulty_vars(&mut self) -> Vec<u32> {
         let count = *self.chance.pick(&[0, 1, 1, 2, 3, 4, 4, 5, 6]);
         (0..count).map(|_| self.maybe_var()).collect()
     }

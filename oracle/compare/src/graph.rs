@@ -31,7 +31,7 @@ impl Val {
         }
     }
 
-    fn word(self) -> u64 {
+    pub fn word(self) -> u64 {
         match self {
             Val::Bool(b) => b as u64,
             Val::Int(i) => i as u32 as u64,

@@ -14,14 +14,19 @@ use compare::maker::Line;
 use compare::programs::{Program, Talk, unmarked};
 use compare::sample::{Answered, chosen};
 use compare::script::script;
+use compare::system_script::system_script;
 use compare::table::{Table, call_of};
 
-const USAGE: &str = "compare --port CMD [--oracle CMD] --seeds FROM..TO [--sums exact] [--batch N] [--quiet]
-compare --print --seed S [--oracle CMD]
-compare --fixed N --seeds FROM..TO [--out FOLDER] [--oracle CMD] [--sums exact]
+const USAGE: &str = "compare --port CMD [--oracle CMD] --seeds FROM..TO [--systems] [--sums exact] [--batch N] [--quiet]
+compare --oracle-alone [--oracle CMD] --seeds FROM..TO [--systems] [--batch N] [--quiet]
+compare --print --seed S [--systems] [--oracle CMD]
+compare --fixed N --seeds FROM..TO [--systems] [--out FOLDER] [--oracle CMD] [--sums exact]
 compare --random-bytes N --seed S --port CMD [--oracle CMD]
 
-CMD is a command and its options, separated by blanks. Without --oracle it is the `oracle` beside this program.";
+With --systems the scripts are about systems, else about graphs. --oracle-alone puts the oracle beside itself. CMD is a command and its options, separated by blanks. Without --oracle it is the `oracle` beside this program.";
+
+/// Lines that are compared by their change, if at all.
+const SUMS: [&[u8]; 3] = [b"sum g", b"sum s", b"sum t"];
 
 /// How long a script is cut down. One that hangs on a count of many lines would take hours.
 const CUTTING: Duration = Duration::from_secs(180);
@@ -51,6 +56,8 @@ struct Options {
     fixed: Option<usize>,
     out: Option<PathBuf>,
     random_bytes: Option<usize>,
+    systems: bool,
+    oracle_alone: bool,
 }
 
 fn number<T: std::str::FromStr>(text: &str) -> Result<T, String> {
@@ -84,6 +91,8 @@ impl Options {
                 "--batch" => options.batch = Some(number(&next()?)?),
                 "--print" => options.print = true,
                 "--quiet" => options.quiet = true,
+                "--systems" => options.systems = true,
+                "--oracle-alone" => options.oracle_alone = true,
                 "--fixed" => options.fixed = Some(number(&next()?)?),
                 "--out" => options.out = Some(PathBuf::from(next()?)),
                 "--random-bytes" => options.random_bytes = Some(number(&next()?)?),
@@ -94,6 +103,9 @@ impl Options {
     }
 
     fn port(&self) -> Result<Program, String> {
+        if self.oracle_alone {
+            return self.oracle();
+        }
         self.port
             .as_deref()
             .map(Program::new)
@@ -118,6 +130,15 @@ impl Options {
         }
     }
 
+    /// Script of a seed, made in conversation with a fresh oracle, so that it hangs on nothing but the seed.
+    fn made(&self, oracle: &Program, seed: u64) -> Result<Vec<Line>, String> {
+        let mut talk = Talk::new(&oracle.with(&["--marks"]))?;
+        Ok(match self.systems {
+            true => system_script(seed, &mut talk),
+            false => script(seed, &mut talk),
+        })
+    }
+
     fn seeds(&self) -> Result<Range<u64>, String> {
         self.seeds
             .clone()
@@ -127,7 +148,7 @@ impl Options {
 
 fn work(options: Options) -> Result<bool, String> {
     if options.print {
-        let lines = made(
+        let lines = options.made(
             &options.oracle()?,
             options.seed.ok_or(format!("--seed is missing\n{USAGE}"))?,
         )?;
@@ -144,12 +165,6 @@ fn work(options: Options) -> Result<bool, String> {
     }
 }
 
-/// Script of a seed, made in conversation with a fresh oracle, so that it hangs on nothing but the seed.
-fn made(oracle: &Program, seed: u64) -> Result<Vec<Line>, String> {
-    let mut talk = Talk::new(&oracle.with(&["--marks"]))?;
-    Ok(script(seed, &mut talk))
-}
-
 fn compared(options: &Options) -> Result<bool, String> {
     let oracle = options.oracle()?;
     let pair = Pair {
@@ -163,7 +178,7 @@ fn compared(options: &Options) -> Result<bool, String> {
     for part in seeds.chunks(batch) {
         let mut scripts = vec![];
         for seed in part {
-            scripts.push(made(&oracle, *seed)?);
+            scripts.push(options.made(&oracle, *seed)?);
         }
         let lines = scripts.concat();
         let result = pair.compare(&lines)?;
@@ -308,9 +323,9 @@ fn fixed(options: &Options, wanted: usize) -> Result<bool, String> {
     let oracle = options.oracle()?;
     let mut scripts = vec![];
     for seed in options.seeds()? {
-        let mut lines = made(&oracle, seed)?;
+        let mut lines = options.made(&oracle, seed)?;
         if !options.exact {
-            lines.retain(|line| line != b"sum g");
+            lines.retain(|line| !SUMS.contains(&line.as_slice()));
         }
         let answers = answered(&oracle, &lines)?;
         scripts.push(Answered { lines, answers });

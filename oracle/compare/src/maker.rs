@@ -33,7 +33,14 @@ pub struct Maker<'a> {
 
 impl<'a> Maker<'a> {
     pub fn new(chance: Chance, teller: &'a mut dyn Teller) -> Self {
-        let mut maker = Maker {
+        let mut maker = Maker::bare(chance, teller);
+        maker.fresh();
+        maker
+    }
+
+    /// Without a first line.
+    pub fn bare(chance: Chance, teller: &'a mut dyn Teller) -> Self {
+        Maker {
             chance,
             lines: vec![],
             graph: Graph::default(),
@@ -42,9 +49,7 @@ impl<'a> Maker<'a> {
             wanted: LONGEST,
             teller,
             silent: false,
-        };
-        maker.fresh();
-        maker
+        }
     }
 
     /// No more lines are wanted, or nobody answers any more.

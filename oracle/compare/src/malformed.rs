@@ -136,24 +136,24 @@ const ODD: [&str; 84] = [
     "eval ( ) 0 { t }",
 ];
 
-/// Lines of the layer above, which this one does not answer.
-const ABOVE: [&str; 16] = [
-    "s new",
-    "s graph",
-    "s channel bi q4",
-    "s channel - sink",
-    "s 0 var b0",
-    "s 0 send 0 { t }",
-    "s build",
-    "t new",
-    "t step 0 0:0 ( 0:0 ) 0",
-    "t wait 1",
-    "t list 0",
-    "t show",
-    "poke s 0 0",
-    "poke t 0 0",
-    "sum s",
-    "sum t",
+/// Lines that look like those of the layer above, and are none there either.
+pub const ABOVE: [&str; 16] = [
+    "s",
+    "s new 0",
+    "s graph 1",
+    "s channel bi 4",
+    "s channel bx sink",
+    "s 0 new",
+    "s 0 send { t }",
+    "s build 0",
+    "t",
+    "t step 0 0 ( 0:0 ) 0",
+    "t step 0 0:0 ( 0 ) 0",
+    "t wait -1",
+    "t queue 0",
+    "poke s 375434 0",
+    "poke t 1417 0",
+    "sum r",
 ];
 
 impl Maker<'_> {

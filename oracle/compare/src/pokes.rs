@@ -47,7 +47,7 @@ impl Maker<'_> {
     }
 
     /// Another word for a place: mostly one of its sort.
-    fn other_word(&mut self, old: Word) -> u64 {
+    pub fn other_word(&mut self, old: Word) -> u64 {
         match old.part {
             Part::Count | Part::Length => match self.chance.below(4) {
                 // Lower, or over every size.
@@ -78,7 +78,7 @@ impl Maker<'_> {
         }
     }
 
-    fn garbage(&mut self) -> u64 {
+    pub fn garbage(&mut self) -> u64 {
         match self.chance.below(4) {
             0 => u64::MAX,
             1 => 1 << self.chance.below(64),

@@ -394,7 +394,7 @@ impl Maker<'_> {
         String::new()
     }
 
-    fn list_number(&mut self) -> u32 {
+    pub fn list_number(&mut self) -> u32 {
         match self.chance.below(10) {
             0 => u32::MAX,
             1 => self.chance.from_to(10, 130) as u32,
@@ -428,7 +428,7 @@ impl Maker<'_> {
 }
 
 /// An entry of the listing, from its answer.
-fn entry(answer: &str) -> Option<(u32, usize, u32)> {
+pub fn entry(answer: &str) -> Option<(u32, usize, u32)> {
     let mut tokens = answer.strip_prefix("ok ")?.split(' ');
     let action = match tokens.next()? {
         "e" => EPSILON,

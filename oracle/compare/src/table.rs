@@ -6,6 +6,7 @@ use std::fmt::Write;
 
 use crate::maker::Line;
 use crate::programs::Mark;
+use crate::system_table::{Queues, SYSTEM_CALLS, second_token};
 
 /// The calls, in the order of the table.
 pub const CALLS: [&str; 36] = [
@@ -53,7 +54,19 @@ pub const BAD: &str = "bad line";
 const ALONE: [&str; 3] = ["type", "draws", "eval"];
 
 /// Those that move a run.
-const MOVES: [&str; 4] = ["r step", "r send", "r receive", "r wait"];
+const MOVES: [&str; 6] = [
+    "r step",
+    "r send",
+    "r receive",
+    "r wait",
+    "t step",
+    "t wait",
+];
+
+/// Every call, graphs before systems.
+fn calls() -> impl Iterator<Item = &'static str> {
+    CALLS.into_iter().chain(SYSTEM_CALLS)
+}
 
 fn starts(line: &[u8], word: &str) -> bool {
     line.split(|b| *b == b' ').next() == Some(word.as_bytes())
@@ -67,13 +80,13 @@ pub fn call_of(line: &[u8], answer: &[u8]) -> &'static str {
         return call;
     }
     let tokens: Vec<&[u8]> = line.split(|b| *b == b' ').collect();
-    let second = if tokens[0] == b"range" { 3 } else { 1 };
+    let second = if tokens[0] == b"range" {
+        3
+    } else {
+        second_token(&tokens)
+    };
     let name = [tokens[0], tokens.get(second).copied().unwrap_or(b"")].join(&b' ');
-    CALLS
-        .iter()
-        .find(|call| call.as_bytes() == name)
-        .copied()
-        .unwrap_or(BAD)
+    calls().find(|call| call.as_bytes() == name).unwrap_or(BAD)
 }
 
 /// A sort of answer: `refused N`, or the first word.
@@ -99,7 +112,7 @@ pub fn answer_of(answer: &[u8]) -> Answer {
         (Some("yes"), None) => Answer::Yes,
         (Some("no"), None) => Answer::No,
         (Some("end"), None) => Answer::End,
-        (Some("places"), _) => Answer::Shown,
+        (Some("places" | "time"), _) => Answer::Shown,
         (Some("refused"), Some(n)) => n.parse().map_or(Answer::Other, Answer::Refused),
         (Some("bad"), Some("line")) => Answer::Bad,
         _ => Answer::Other,
@@ -130,11 +143,13 @@ pub struct Table {
     pub scripts: usize,
     lines: Count,
     pairs: BTreeMap<(&'static str, Answer), Count>,
+    queues: Queues,
 }
 
 impl Table {
     pub fn add(&mut self, line: &Line, mark: Option<Mark>, answer: &[u8]) {
         self.lines.add(mark);
+        self.queues.add(line, answer);
         self.pairs
             .entry((call_of(line, answer), answer_of(answer)))
             .or_default()
@@ -196,10 +211,24 @@ impl Table {
             self.moves().rust
         );
         let _ = writeln!(text, "| share of all lines | {:.1} % |", self.share());
+        let steps = self
+            .sum(|call, _| ["t step", "t wait"].contains(&call))
+            .all();
+        if steps > 0 {
+            let accepted = self
+                .sum(|call, answer| ["t step", "t wait"].contains(&call) && answer == Answer::Ok);
+            let share = 100.0 * accepted.all() as f64 / steps as f64;
+            let _ = writeln!(text, "| accepted of `t step` and `t wait` | {share:.1} % |");
+        }
         text.push('\n');
         self.calls(&mut text);
         text.push('\n');
         self.refusals(&mut text);
+        let queues = self.queues.markdown();
+        if !queues.is_empty() {
+            text.push('\n');
+            text.push_str(&queues);
+        }
         text
     }
 
@@ -208,8 +237,11 @@ impl Table {
             text,
             "| Call | Lines | R | P | Accepted | Refused: number × times |\n|---|---|---|---|---|---|"
         );
-        for name in CALLS {
+        for name in calls() {
             let all = self.sum(|call, _| call == name);
+            if all.all() == 0 {
+                continue;
+            }
             let accepted = self.accepted(name);
             let mut refused = String::new();
             for ((call, answer), count) in &self.pairs {
@@ -267,8 +299,7 @@ impl Table {
         for n in 1..=32 {
             let count = self.sum(|_, answer| answer == Answer::Refused(n));
             if count.all() > 0 {
-                let calls: Vec<&str> = CALLS
-                    .into_iter()
+                let calls: Vec<&str> = calls()
                     .filter(|call| self.pairs.contains_key(&(*call, Answer::Refused(n))))
                     .collect();
                 let _ = writeln!(

@@ -5,6 +5,11 @@ pub trait Rng {
     fn draw(&mut self) -> bool;
 }
 
+/// A word of zeros: a run of a system is made with one and then handed its word.
+pub fn make_rng() -> rngs::SmallRng {
+    rngs::SmallRng::of_word(0)
+}
+
 pub mod rngs {
     use super::Rng;
 
