@@ -9,10 +9,11 @@ use graph_tables::answers::Entry;
 use graph_tables::answers::Placed;
 use graph_tables::answers::VarType;
 use graph_tables::ids::Action;
-use program_graph::run::Held;
-use program_graph::run::States;
-use program_graph::run::Value;
-use program_graph::transitions::Listed;
+use program_graph::answers::Held;
+use program_graph::answers::Listed;
+use program_graph::answers::States;
+use program_graph::answers::Time;
+use program_graph::answers::Value;
 use text::answers;
 use text::lists;
 use text::output;
@@ -38,6 +39,13 @@ pub fn placed(out: &mut [u8], p: Placed) -> usize {
     match p {
         Placed::At(n) => ok_number(out, n as u64),
         Placed::Refused(r) => answers::refused(out, r.number()),
+    }
+}
+
+pub fn time(out: &mut [u8], t: Time) -> usize {
+    match t {
+        Time::Is(n) => ok_number(out, n as u64),
+        Time::Refused(r) => answers::refused(out, r.number()),
     }
 }
 

@@ -8,7 +8,7 @@ use crate::table;
 use libc::STDOUT_FILENO;
 use program_graph::builder;
 use program_graph::inner::fresh;
-use program_graph::run::ProgramGraphRun;
+use program_graph::record::ProgramGraphRun;
 use text::lines;
 use text::ranges;
 use text::tokens;

@@ -2,10 +2,10 @@
 use crate::answers;
 use crate::showing;
 use crate::stepping;
+use graph_tables::answers::Done;
 use graph_tables::ids::Clock;
 use graph_tables::ids::Var;
-use program_graph::run::ProgramGraphRun;
-use program_graph::run::Stepped;
+use program_graph::record::ProgramGraphRun;
 use text::numbers;
 use text::numbers::Small;
 use text::tokens;
@@ -23,9 +23,8 @@ pub fn bad(run: ProgramGraphRun, out: &mut [u8]) -> Answered {
     }
 }
 
-pub fn stepped(out: &mut [u8], s: Stepped) -> Answered {
-    let answer = s.answer;
-    let run = s.run;
+// What a call answered, and the run after it.
+pub fn told(out: &mut [u8], answer: Done, run: ProgramGraphRun) -> Answered {
     Answered {
         length: answers::done(out, answer),
         run,
@@ -47,7 +46,7 @@ fn asked(verb: &[u8], n: u32, t: &[u64], run: ProgramGraphRun, out: &mut [u8]) -
         return answers::value(out, run.value(t, Var(n)));
     }
     if tokens::is(verb, b"clock") {
-        return answers::placed(out, run.time(t, Clock(n)));
+        return answers::time(out, run.time(t, Clock(n)));
     }
     text::answers::bad(out)
 }
@@ -68,7 +67,10 @@ fn numbered(
         return bad(run, out);
     }
     if tokens::is(verb, b"wait") {
-        return stepped(out, run.wait(t, n));
+        let w = run.wait(t, n);
+        let answer = w.answer;
+        let next = w.run;
+        return told(out, answer, next);
     }
     Answered {
         length: asked(verb, n, t, run, out),
@@ -79,7 +81,10 @@ fn numbered(
 // Lines of two tokens: r new, r waiting, r places, r show
 fn bare(verb: &[u8], t: &[u64], run: ProgramGraphRun, out: &mut [u8]) -> Answered {
     if tokens::is(verb, b"new") {
-        return stepped(out, ProgramGraphRun::new(t));
+        let f = ProgramGraphRun::new(t);
+        let answer = f.answer;
+        let fresh = f.run;
+        return told(out, answer, fresh);
     }
     if tokens::is(verb, b"waiting") {
         return Answered {

@@ -2,7 +2,7 @@
 use crate::answers;
 use graph_tables::inner;
 use graph_tables::sizes;
-use program_graph::run::ProgramGraphRun;
+use program_graph::record::ProgramGraphRun;
 use text::output;
 
 fn put_places(out: &mut [u8], run: ProgramGraphRun, count: usize) -> usize {
@@ -17,10 +17,10 @@ fn put_vars(out: &mut [u8], at: usize, run: ProgramGraphRun, count: usize) -> us
     answers::put_values(out, here, vars, count)
 }
 
-fn put_clocks(out: &mut [u8], at: usize, run: ProgramGraphRun, count: usize) -> usize {
-    let clocks = run.clocks;
+fn put_times(out: &mut [u8], at: usize, run: ProgramGraphRun, count: usize) -> usize {
+    let times = run.times;
     let here = output::put_all(out, at, b" clocks");
-    answers::put_numbers(out, here, &clocks, count)
+    answers::put_numbers(out, here, &times, count)
 }
 
 // A count that is above the run's size shows all of the run.
@@ -30,6 +30,6 @@ pub fn show(t: &[u64], run: ProgramGraphRun, out: &mut [u8]) -> usize {
     }
     let a = put_places(out, run, inner::process_count(t));
     let b = put_vars(out, a, run, inner::variable_count(t));
-    let c = put_clocks(out, b, run, inner::clock_count(t));
+    let c = put_times(out, b, run, inner::clock_count(t));
     text::answers::end(out, c)
 }

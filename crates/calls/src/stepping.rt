@@ -8,7 +8,7 @@ use grammar::values::Val;
 use graph_tables::answers::Done;
 use graph_tables::handed::Message;
 use graph_tables::ids::Action;
-use program_graph::run::ProgramGraphRun;
+use program_graph::record::ProgramGraphRun;
 use text::lists::Numbers;
 use text::lists::Values;
 use text::numbers;
@@ -87,7 +87,10 @@ pub fn step(line: &[u8], at: usize, t: &[u64], run: ProgramGraphRun, out: &mut [
     };
     let numbers = posts.numbers;
     let part = text::lists::part(&numbers, posts.count);
-    running::stepped(out, run.transition(t, Action(asked.action), part, word))
+    let s = run.transition(t, Action(asked.action), part, word);
+    let answer = s.answer;
+    let next = s.run;
+    running::told(out, answer, next)
 }
 
 // The values of a message in as many slots as variables have.
@@ -170,8 +173,8 @@ pub fn receive(
     }
     let numbers = posts.numbers;
     let part = text::lists::part(&numbers, posts.count);
-    running::stepped(
-        out,
-        run.receive(t, Action(asked.action), part, message(read)),
-    )
+    let r = run.receive(t, Action(asked.action), part, message(read));
+    let answer = r.answer;
+    let next = r.run;
+    running::told(out, answer, next)
 }

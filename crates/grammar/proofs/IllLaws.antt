@@ -1,11 +1,15 @@
 -- An expression with an ill-typed operand is ill-typed, whatever comes after it.
 use Prim.Native.Nat.{ℕ, _<_}
-use mathlib.Core.Path.{_≡_, refl}
+use mathlib.Core.Path.{_≡_, refl, sym, ap, _∙_}
+use mathlib.Core.Bool.{Bool, true, false}
 use mathlib.Core.List.{List, [], _∷_}
 use native.Mathlib.Omega.{arith}
-use Rattle.grammar.specs.Items.{Read, item, none, itemOf}
+use lib.Dec.{leb, lit<}
+use lib.ListN.{length}
+use Rattle.laws.specs.Ladder.{unless}
+use Rattle.grammar.specs.Items.{Read, item, none, itemOf, deepest}
 use Rattle.grammar.specs.Run.{Step, push, change, join, runOf}
-use Rattle.grammar.specs.Typing.{Kinded, of, ill, unaryKind, binaryKind, kindedAt, kindStep, kindSteps, judged}
+use Rattle.grammar.specs.Typing.{Kinded, of, ill, unaryKind, binaryKind, kindedAt, kindStep, kindSteps, judged, typeOf}
 use Rattle.grammar.specs.Inner.{kindedWord}
 use Rattle.grammar.specs.declared.values.«Type».{«Type» as Kind}
 use Rattle.grammar.specs.declared.values.«Type».the-variants.{Boolean, Integer}
@@ -14,7 +18,7 @@ use Rattle.grammar.specs.declared.items.Unary.the-variants.{Not, Negate}
 use Rattle.grammar.specs.declared.items.Binary.{Binary}
 use Rattle.grammar.specs.declared.items.Binary.the-variants.{And, Or, Add, Subtract, Multiply, Divide, Remainder, Equal, Less, LessOrEqual}
 use Rattle.grammar.specs.declared.items.Item.the-variants as Item
-use Rattle.grammar.specs.declared.typing.Typed.the-variants.{IllTyped}
+use Rattle.grammar.specs.declared.typing.Typed.the-variants.{Known, IllTyped, TableFull}
 
 -- a step makes an ill-typed operand of an ill-typed one
 abbrev Strict : Step Kinded → Type 0
@@ -89,3 +93,32 @@ pub ill-typed : (deep : ℕ) (kinds ws : List ℕ) (k : Kinded) (waiting : List 
 ill-typed deep kinds ws (of Boolean) waiting h = absurd (omega arith)
 ill-typed deep kinds ws (of Integer) waiting h = absurd (omega arith)
 ill-typed deep kinds ws ill waiting h = stays deep kinds ws (ill ∷ waiting) tt
+
+-- ---- whatever waits, these steps end ill-typed
+module _ (deep : ℕ) where
+  abbrev pub Ill : List (Step Kinded) → Type 0
+  Ill steps = (waiting : List Kinded) → judged (runOf steps waiting) deep ≡ IllTyped
+
+  -- so do they after any step, and any steps after an ill-typed operand
+  pub ill-before : (i : Step Kinded) (steps : List (Step Kinded)) → Ill steps → Ill (i ∷ steps)
+  unfolding runOf
+  ill-before (push k) steps h waiting = h (k ∷ waiting)
+  ill-before (change f) steps h [] = refl
+  ill-before (change f) steps h (a ∷ waiting) = h (f a ∷ waiting)
+  ill-before (join f) steps h [] = refl
+  ill-before (join f) steps h (b ∷ []) = refl
+  ill-before (join f) steps h (b ∷ a ∷ waiting) = h (f a b ∷ waiting)
+
+  pub ill-pushed : (kinds : List ℕ) (w : ℕ) (ws : List ℕ) → kindStep kinds (itemOf w) ≡ push ill → Ill (kindSteps kinds (w ∷ ws))
+  unfolding runOf kindSteps
+  ill-pushed kinds w ws e waiting = rw e (ill-typed deep kinds ws ill waiting (lit< tt))
+
+no-kind : (t : Bool) (k : Kind) → unless t TableFull IllTyped ≡ Known k → ⊥
+unfolding unless
+no-kind true k e = let z : _≡_ {A = ℕ} 0 1 = cc in absurd (omega arith)
+no-kind false k e = let z : _≡_ {A = ℕ} 0 1 = cc in absurd (omega arith)
+
+-- the steps of a typed expression do not
+pub never-ill : (kinds ws : List ℕ) (k : Kind) → typeOf kinds ws ≡ Known k → Ill (deepest ws 0) (kindSteps kinds ws) → ⊥
+unfolding typeOf
+never-ill kinds ws k e h = no-kind (leb (length ws) 64) k (ap (unless (leb (length ws) 64) TableFull) (sym (h [])) ∙ e)

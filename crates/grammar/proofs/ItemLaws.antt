@@ -71,15 +71,6 @@ pub through : {A : Type 0} (f : Read → A) (t : Bool) (v : Val) → cond t (f (
 through f true v = refl
 through f false v = refl
 
--- no item takes more than two operands
-pub takes-most : (r : Read) → takesOf r ≤ 2
-takes-most (item (Item.Constant v)) = lit≤ tt
-takes-most (item (Item.Variable n)) = lit≤ tt
-takes-most (item (Item.Unary u)) = lit≤ tt
-takes-most (item (Item.Binary b)) = lit≤ tt
-takes-most (item Item.Draw) = lit≤ tt
-takes-most none = lit≤ tt
-
 -- no item draws more than once
 pub draws-most : (r : Read) → drawsIn r ≤ 1
 draws-most (item (Item.Constant v)) = lit≤ tt

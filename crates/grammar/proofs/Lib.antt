@@ -8,9 +8,14 @@ pub mod KindLaws
 pub mod IllLaws
 pub mod MoreKinds
 pub mod DrawLaws
+pub mod AgreeLaws
 pub mod Stack
 pub mod StepLaws
+pub mod PlaneLaws
+pub mod PassLaws
+pub mod CodeLaws
 pub mod EvaluationLaws
 pub mod TurnLaws
+pub mod SlotLaws
 pub mod Sound
 pub mod Theorems

@@ -6,14 +6,7 @@ use native.Mathlib.Numerals.{add-one}
 use native.Mathlib.Omega.{arith}
 use lib.ListN.{length, getD, set}
 use lib.Seq.{getD-set-same, getD-set-other}
-use borrow.Author.Tests.{eqb-false}
-use Rattle.grammar.specs.Run.{Step, push, change, join, gives, stuck, runOf, made}
-
--- how many operands a step takes
-abbrev pub sizeOf : {A : Type 0} → Step A → ℕ
-sizeOf (push a) = 0
-sizeOf (change f) = 1
-sizeOf (join f) = 2
+use Rattle.grammar.specs.Run.{Step, push, change, join, gives, stuck, runOf, sizeOf, made}
 
 -- `val` is the operand in a slot, and `past` what a read past the end gives
 module _ {S A : Type 0} (val : S → A) (past : S) where
@@ -75,13 +68,3 @@ module _ {S A : Type 0} (val : S → A) (past : S) where
   pub ended : (s : List S) (d : ℕ) → d ≡ 1 → runOf [] (stackOf s d) ≡ gives (at s 0)
   unfolding runOf
   ended s d e = rw e
-
-  -- a step that takes none
-  pub added : (i : Step A) (rest : List (Step A)) (s : List S) (d : ℕ) → sizeOf i ≡ 0 → (x y : A) → runOf rest (made i x y ∷ stackOf s d) ≡ runOf (i ∷ rest) (stackOf s d)
-  unfolding runOf
-  added (push a) rest s d e x y = refl
-  added (change f) rest s d e x y = absurd (eqb-false 1 0 refl e)
-  added (join f) rest s d e x y = absurd (eqb-false 2 0 refl e)
-
-  pub pushed : (i : Step A) (rest : List (Step A)) (s : List S) (d : ℕ) → sizeOf i ≡ 0 → d < length s → (v : S) (x y : A) → val v ≡ made i x y → runOf rest (stackOf (set s d v) (d + 1)) ≡ runOf (i ∷ rest) (stackOf s d)
-  pushed i rest s d e l v x y k = ap (runOf rest) (stack-push s d v l ∙ ap (λ (b : A). b ∷ stackOf s d) k) ∙ added i rest s d e x y

@@ -8,12 +8,12 @@ use lib.ListN.{length, getD, drop}
 use Rattle.laws.proofs.Lists.{next, done}
 use Rattle.grammar.specs.Items.{Read, item, none, itemOf, takesOf, deepest}
 use Rattle.grammar.specs.Draws.{drawsIn}
+use Rattle.grammar.specs.Run.{sizeOf}
 use Rattle.grammar.specs.Typing.{kindStep, kindSteps}
 use Rattle.grammar.specs.Evaluation.{valueStep, valueSteps}
 use Rattle.grammar.specs.declared.items.Item.the-variants as Item
 use Rattle.grammar.specs.declared.values.Slot.{Slot}
 use Rattle.grammar.proofs.ItemLaws.{takes-operand}
-use Rattle.grammar.proofs.Stack.{sizeOf}
 
 -- a step takes what its item takes
 pub kind-size : (kinds : List ℕ) (r : Read) → takesOf r ≡ sizeOf (kindStep kinds r)

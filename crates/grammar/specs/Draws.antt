@@ -1,4 +1,4 @@
--- A draw takes the lowest unused bit of the word, whatever the values are.
+-- A draw takes the lowest unused bit of the word, whatever the values are (docs/RULES.md, Expressions).
 use Prim.Native.Nat.{ℕ, _+_}
 use mathlib.Core.List.{List, [], _∷_}
 use Rattle.grammar.specs.Items.{Read, item, none, itemOf}

@@ -1,4 +1,4 @@
--- The value of an expression, or none, and what is left of the word.
+-- The value of an expression, or none, and what is left of the word (docs/RULES.md, Expressions).
 use Prim.Native.Nat.{ℕ, _/_, _%_, _^_}
 use mathlib.Core.Bool.{Bool, true, false, not, cond, _&&_, _||_}
 use mathlib.Core.List.{List, [], _∷_}

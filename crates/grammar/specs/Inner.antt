@@ -1,17 +1,24 @@
 -- What the inner functions say of words and of the numbers that they hold. No public call speaks of it.
-use Prim.Native.Nat.{ℕ, _*_, _/_, _%_, _^_}
+use Prim.Native.Nat.{ℕ, zero, suc, _+_, _-_, _*_, _/_, _%_, _^_, _≤_, _<_}
 use mathlib.Core.Bool.{Bool, true, false, cond}
-use mathlib.Core.List.{List}
+use mathlib.Core.Path.{_≡_}
+use mathlib.Core.List.{List, [], _∷_}
 use lib.Dec.{eqb, ltb}
 use lib.IntN.{ℤ, subℕ}
+use lib.ListN.{getD}
 use Rattle.grammar.specs.Values.{kindOf, kindWord}
 use Rattle.grammar.specs.Items.{Read, item, none}
 use Rattle.grammar.specs.Draws.{drawsOf}
-use Rattle.grammar.specs.Typing.{Kinded, of, ill, variableKind}
+use Rattle.grammar.specs.Run.{Step, runOf, sizeOf}
+use Rattle.grammar.specs.Typing.{Kinded, of, ill, kindedAt, variableKind, kindSteps, judged}
 use Rattle.grammar.specs.Evaluation.{drawOf, valuesOf, binaryOf}
 use Rattle.grammar.specs.declared.values.Val.{Val}
 use Rattle.grammar.specs.declared.values.Val.the-variants.{Boolean, Integer}
 use Rattle.grammar.specs.declared.items.Item.the-variants as Item
+use Rattle.grammar.specs.declared.values.«Type».the-variants as Kind
+use Rattle.grammar.specs.declared.typing.Typed.{Typed}
+use Rattle.grammar.specs.declared.typing.Typed.the-variants as Typed
+use Rattle.grammar.specs.declared.waiting.Waiting.{Waiting}
 use Rattle.grammar.specs.declared.evaluation.Evaluated.{Evaluated}
 use Rattle.grammar.specs.declared.evaluation.Evaluated.the-variants.{Known, NoValue}
 use Rattle.grammar.specs.declared.evaluation.Evaluation.{Evaluation}
@@ -41,6 +48,32 @@ operandKind kinds (item (Item.Unary u)) = ill
 operandKind kinds (item (Item.Binary b)) = ill
 operandKind kinds (item Item.Draw) = ill
 operandKind kinds none = ill
+
+-- n operands that wait, the last first, as bits: the lowest is the last one's kind
+unfoldable pub planeOf : ℕ → ℕ → List Kinded
+planeOf zero bits = []
+planeOf (suc n) bits = kindedAt (bits % 2) ∷ planeOf n (bits / 2)
+
+-- what a step leaves of them: some, from which the run goes on; or none, and the run is ill-typed whatever comes after
+pub record Left (i : Step Kinded) (n bits : ℕ) (r : Waiting) : Type 0 where
+  pub small : r .integers < 2 ^ r .depth
+  pub fewer : r .depth ≤ n
+  pub exact : 1 ≤ r .depth → r .depth ≡ n - sizeOf i + 1
+  pub goes : 1 ≤ r .depth → (steps : List (Step Kinded)) → runOf steps (planeOf (r .depth) (r .integers)) ≡ runOf (i ∷ steps) (planeOf n bits)
+  pub fails : r .depth ≡ 0 → (deep : ℕ) (kinds ws : List ℕ) → judged (runOf (i ∷ kindSteps kinds ws) (planeOf n bits)) deep ≡ Typed.IllTyped
+
+-- an answer and its draws as one number, and the answer in it
+abbrev pub codeOf : Typed → ℕ → ℕ
+codeOf (Typed.Known k) n = 8 * n + kindWord k
+codeOf (Typed.TooDeep k) n = 8 * n + 2 + kindWord k
+codeOf Typed.IllTyped n = 4
+codeOf Typed.TableFull n = 5
+
+abbrev pub answers : List Typed
+answers = Typed.Known Kind.Boolean ∷ Typed.Known Kind.Integer ∷ Typed.TooDeep Kind.Boolean ∷ Typed.TooDeep Kind.Integer ∷ Typed.IllTyped ∷ []
+
+abbrev pub typedIn : ℕ → Typed
+typedIn code = getD answers (code % 8) Typed.TableFull
 
 -- an integer that waits as z + 2147483648
 abbrev pub wholeOf : ℕ → ℤ

@@ -1,4 +1,4 @@
--- Items: constant, variable, not, and, or, negate, + - * / %, =, <, <=, draw.
+-- Items: constant, variable, not, and, or, negate, + - * / %, =, <, <=, draw (docs/RULES.md, Expressions).
 use Prim.Native.Nat.{ℕ, _+_, _-_, _*_, _/_, _%_, max}
 use mathlib.Core.Bool.{true, false, cond}
 use mathlib.Core.List.{List, [], _∷_}

@@ -6,5 +6,6 @@ pub mod Run
 pub mod Typing
 pub mod Arith
 pub mod Evaluation
+pub mod Slots
 pub mod Inner
 pub mod Marked

@@ -1,4 +1,5 @@
 -- Postfix items at work, over any kind of operand: values, or kinds of value.
+use Prim.Native.Nat.{ℕ}
 use mathlib.Core.List.{List, [], _∷_}
 
 -- a step adds an operand, or takes the last one or the last two, the earlier first, and adds what it makes of them
@@ -23,6 +24,12 @@ runOf (change f ∷ steps) (a ∷ waiting) = runOf steps (f a ∷ waiting)
 runOf (join f ∷ steps) [] = stuck
 runOf (join f ∷ steps) (b ∷ []) = stuck
 runOf (join f ∷ steps) (b ∷ a ∷ waiting) = runOf steps (f a b ∷ waiting)
+
+-- how many operands a step takes
+abbrev pub sizeOf : {A : Type 0} → Step A → ℕ
+sizeOf (push a) = 0
+sizeOf (change f) = 1
+sizeOf (join f) = 2
 
 -- what a step makes of two operands, of which it may take fewer
 abbrev pub made : {A : Type 0} → Step A → A → A → A

@@ -1,13 +1,14 @@
 -- The kind of an expression, or the refusal: 6 where it is ill-typed, names an unknown variable, has no items or not
--- exactly one result; 28 beyond 64 items, and, last, where more than 16 operands wait.
+-- exactly one result; 28 beyond 64 items, and, last, where more than 16 operands wait (docs/RULES.md, Expressions).
 use Prim.Native.Nat.{ℕ, zero, suc}
 use mathlib.Core.Bool.{Bool, true, false, cond}
 use mathlib.Core.List.{List, [], _∷_}
-use lib.Dec.{leb}
+use lib.Dec.{eqb, leb}
 use lib.ListN.{getD, length}
 use Rattle.laws.specs.Ladder.{unless}
 use Rattle.grammar.specs.Values.{kindOf, kindWord}
 use Rattle.grammar.specs.Items.{Read, item, none, itemOf, deepest}
+use Rattle.grammar.specs.Draws.{drawsOf}
 use Rattle.grammar.specs.Run.{Step, push, change, join, Ran, gives, stuck, runOf}
 use Rattle.grammar.specs.declared.values.«Type».{«Type» as Kind}
 use Rattle.grammar.specs.declared.values.«Type».the-variants.{Boolean, Integer}
@@ -18,6 +19,7 @@ use Rattle.grammar.specs.declared.items.Binary.the-variants.{And, Or, Ad
 use Rattle.grammar.specs.declared.items.Item.the-variants as Item
 use Rattle.grammar.specs.declared.typing.Typed.{Typed}
 use Rattle.grammar.specs.declared.typing.Typed.the-variants.{Known, IllTyped, TableFull, TooDeep}
+use Rattle.grammar.specs.declared.typing.Judged.{Judged}
 
 -- The number of each answer.
 abbrev pub numberOf : Typed → ℕ
@@ -25,6 +27,45 @@ numberOf (Known k) = 0
 numberOf IllTyped = 6
 numberOf TableFull = 28
 numberOf (TooDeep k) = 28
+
+-- What an answer says: it has more than 64 items; more than 16 operands wait.
+abbrev pub tooLong : Typed → Bool
+tooLong (Known k) = false
+tooLong IllTyped = false
+tooLong TableFull = true
+tooLong (TooDeep k) = false
+
+abbrev pub tooDeep : Typed → Bool
+tooDeep (Known k) = false
+tooDeep IllTyped = false
+tooDeep TableFull = false
+tooDeep (TooDeep k) = true
+
+-- It has a kind, however many operands wait, and one of this word.
+abbrev pub kinded : Typed → Bool
+kinded (Known k) = true
+kinded IllTyped = false
+kinded TableFull = false
+kinded (TooDeep k) = true
+
+abbrev pub kindedAs : ℕ → Typed → Bool
+kindedAs w (Known k) = eqb (kindWord k) w
+kindedAs w IllTyped = false
+kindedAs w TableFull = false
+kindedAs w (TooDeep k) = eqb (kindWord k) w
+
+-- It is well typed, and of the kind of this word.
+abbrev pub isTyped : Typed → Bool
+isTyped (Known k) = true
+isTyped IllTyped = false
+isTyped TableFull = false
+isTyped (TooDeep k) = false
+
+abbrev pub typedAs : ℕ → Typed → Bool
+typedAs w (Known k) = eqb (kindWord k) w
+typedAs w IllTyped = false
+typedAs w TableFull = false
+typedAs w (TooDeep k) = false
 
 -- The kind of an operand, or that it is ill-typed.
 pub data Kinded : Type 0 where
@@ -99,3 +140,13 @@ judged stuck deep = IllTyped
 
 unfoldable pub typeOf : List ℕ → List ℕ → Typed
 typeOf kinds ws = unless (leb (length ws) 64) TableFull (judged (runOf (kindSteps kinds ws) []) (deepest ws 0))
+
+-- the draws that are told beside an answer: all of them where there is a kind, and none where there is none
+abbrev pub toldOf : Typed → ℕ → ℕ
+toldOf (Known k) n = n
+toldOf (TooDeep k) n = n
+toldOf IllTyped n = 0
+toldOf TableFull n = 0
+
+abbrev pub judgedOf : List ℕ → List ℕ → Judged
+judgedOf kinds ws = record { typed = typeOf kinds ws; draws = toldOf (typeOf kinds ws) (drawsOf ws) }

@@ -2,6 +2,8 @@
 pub mod bits;
 pub mod draws;
 pub mod evaluation;
+pub mod inner;
 pub mod items;
 pub mod typing;
 pub mod values;
+pub mod waiting;

@@ -1,16 +1,16 @@
 // The kind of an expression, or the refusal.
 use crate::items;
 use crate::values::Type;
+use crate::waiting;
 ghost use mathlib.Core.Path.{_≡_};
-ghost use mathlib.Core.Bool.{cond};
 ghost use mathlib.Core.List.{[]};
-ghost use Prim.Native.Nat.{_≤_, _<_, _/_, _%_, max};
-ghost use lib.Dec.{eqb};
+ghost use Prim.Native.Nat.{ℕ, _*_, _/_, _%_, _≤_, max};
 ghost use lib.ListN.{length};
-ghost use Rattle.grammar.specs.Items.{itemOf, operandOf, takesOf, deepest};
-ghost use Rattle.grammar.specs.Run.{made, gives, runOf};
-ghost use Rattle.grammar.specs.Typing.{numberOf, of, ill, kindedAt, variableKind, kindStep, kindSteps, judged, typeOf};
-ghost use Rattle.grammar.specs.Inner.{rowOf, kindedWord, operandKind};
+ghost use Rattle.grammar.specs.Items.{operandOf, deepest};
+ghost use Rattle.grammar.specs.Draws.{drawsOf};
+ghost use Rattle.grammar.specs.Run.{gives, runOf};
+ghost use Rattle.grammar.specs.Typing.{numberOf, tooLong, tooDeep, kinded, kindedAs, isTyped, typedAs, kindedAt, variableKind, kindSteps, judged, typeOf, judgedOf};
+ghost use Rattle.grammar.specs.Inner.{kindedWord, operandKind, codeOf, typedIn};
 
 pub enum Typed {
     Known(Type),
@@ -20,6 +20,12 @@ pub enum Typed {
     TableFull,
     // 28, and last: it has this kind, but too many operands wait.
     TooDeep(Type),
+}
+
+// The kind or the refusal, and, of an expression that has a kind, the number of its draws.
+pub struct Judged {
+    pub typed: Typed,
+    pub draws: usize,
 }
 
 impl Typed {
@@ -34,6 +40,78 @@ impl Typed {
             Typed::TooDeep(_) => 28,
         }
     }
+
+    // It has more than 64 items.
+    pub fn too_long(self) -> bool
+        ensures { λ r. ⌜ r ≡ tooLong self ⌝ }
+    {
+        match self {
+            Typed::Known(_) => false,
+            Typed::IllTyped => false,
+            Typed::TableFull => true,
+            Typed::TooDeep(_) => false,
+        }
+    }
+
+    // More than 16 operands wait.
+    pub fn too_deep(self) -> bool
+        ensures { λ r. ⌜ r ≡ tooDeep self ⌝ }
+    {
+        match self {
+            Typed::Known(_) => false,
+            Typed::IllTyped => false,
+            Typed::TableFull => false,
+            Typed::TooDeep(_) => true,
+        }
+    }
+
+    // It has a kind, however many operands wait.
+    pub fn has_kind(self) -> bool
+        ensures { λ r. ⌜ r ≡ kinded self ⌝ }
+    {
+        match self {
+            Typed::Known(_) => true,
+            Typed::IllTyped => false,
+            Typed::TableFull => false,
+            Typed::TooDeep(_) => true,
+        }
+    }
+
+    // Its kind, however many operands wait, is that of the word.
+    pub fn kinded_as(self, w: u64) -> bool
+        ensures { λ r. ⌜ r ≡ kindedAs w self ⌝ }
+    {
+        match self {
+            Typed::Known(k) => k.word() == w,
+            Typed::IllTyped => false,
+            Typed::TableFull => false,
+            Typed::TooDeep(k) => k.word() == w,
+        }
+    }
+
+    // It is well typed.
+    pub fn is_typed(self) -> bool
+        ensures { λ r. ⌜ r ≡ isTyped self ⌝ }
+    {
+        match self {
+            Typed::Known(_) => true,
+            Typed::IllTyped => false,
+            Typed::TableFull => false,
+            Typed::TooDeep(_) => false,
+        }
+    }
+
+    // It is well typed, of the kind of the word.
+    pub fn typed_as(self, w: u64) -> bool
+        ensures { λ r. ⌜ r ≡ typedAs w self ⌝ }
+    {
+        match self {
+            Typed::Known(k) => k.word() == w,
+            Typed::IllTyped => false,
+            Typed::TableFull => false,
+            Typed::TooDeep(_) => false,
+        }
+    }
 }
 
 // The most items of an expression, and the most operands that may wait.
@@ -41,49 +119,18 @@ pub const MOST_ITEMS: usize = 64;
 
 pub const MOST_OPERANDS: usize = 16;
 
-// The kinds of operands while they wait.
+// The kind of a word that is an operand, or none.
 const BOOLEAN: u8 = 0;
 
 const INTEGER: u8 = 1;
 
 const ILL: u8 = 2;
 
-// By the word of an operation: the kind that its operands have, but for =, and the kind of what it gives.
-// 2 0 0 0 1 1 1 1 1 1 2 1 1 2
-const WANTS: u64 = 157635842;
+// The answer as one number, which callers take apart where they need it: 8 for each draw, 2 where too many operands waited, and
+// the kind; or one of these.
+const ILL_TYPED: u64 = 4;
 
-// 2 0 0 0 1 1 1 1 1 1 0 0 0 0
-const GIVES: u64 = 349442;
-
-fn takes_one(k: u8, r: u8, a: u8) -> u8
-    ensures { λ x. ⌜ x ≡ cond (eqb a k) r 2 ⌝ }
-{
-    if a == k {
-        return r;
-    }
-    ILL
-}
-
-fn takes_two(k: u8, r: u8, a: u8, b: u8) -> u8
-    ensures { λ x. ⌜ x ≡ cond (eqb a k) (cond (eqb b k) r 2) 2 ⌝ }
-{
-    if a != k {
-        return ILL;
-    }
-    if b != k {
-        return ILL;
-    }
-    r
-}
-
-fn of_one_kind(a: u8, b: u8) -> u8
-    ensures { λ r. ⌜ r ≡ cond (eqb a b) 0 2 ⌝ }
-{
-    if a == b {
-        return BOOLEAN;
-    }
-    ILL
-}
+const TABLE_FULL: u64 = 5;
 
 fn variable_kind(kinds: &[u64], n: u64) -> u8
     ensures { λ r. ⌜ r ≡ kindedWord (variableKind (now (kinds .entry)) n) ⌝ }
@@ -115,43 +162,6 @@ fn constant_kind(kinds: &[u64], w: u64) -> u8
     }
 }
 
-// The kind of the operand that a word adds.
-fn operand_kind(kinds: &[u64], w: u64) -> u8
-    requires { ⌜ 13 ≤ w ⌝ }
-    ensures { λ r. ⌜ r ≡ kindedWord (made (kindStep (now (kinds .entry)) (itemOf w)) ill ill) ⌝ }
-{
-    if w == items::DRAW {
-        return BOOLEAN;
-    }
-    constant_kind(kinds, w)
-}
-
-fn kind_row(table: u64, w: u64) -> u8
-    requires { ⌜ w < 14 ⌝ }
-    ensures { λ r. ⌜ r ≡ rowOf table w ⌝ }
-{
-    items::row(table, w) as u8
-}
-
-// The kind that an operation gives: a and b are the kinds of its operands, of which it takes so many.
-fn operation_kind(w: u64, takes: usize, a: u8, b: u8) -> u8
-    requires { ⌜ (w < 13) × (takes ≡ takesOf (itemOf w)) × (a ≤ 1) × (b ≤ 1) ⌝ }
-    ensures { λ r. ⌜ r ≡ kindedWord (made (kindStep [] (itemOf w)) (kindedAt a) (kindedAt b)) ⌝ }
-{
-    if w == items::EQUAL {
-        return of_one_kind(a, b);
-    }
-    if takes == 0 {
-        return ILL;
-    }
-    let give = kind_row(GIVES, w);
-    let want = kind_row(WANTS, w);
-    if takes == 1 {
-        return takes_one(want, give, a);
-    }
-    takes_two(want, give, a, b)
-}
-
 fn larger(a: usize, b: usize) -> usize
     ensures { λ r. ⌜ r ≡ max a b ⌝ }
 {
@@ -161,76 +171,96 @@ fn larger(a: usize, b: usize) -> usize
     a
 }
 
-fn kind_named(k: u8) -> Type
-    requires { ⌜ k ≤ 1 ⌝ }
-    ensures { λ r. ⌜ kindedAt k ≡ of r ⌝ }
-{
-    if k == INTEGER {
-        return Type::Integer;
-    }
-    Type::Boolean
-}
-
 // An expression that is well typed: too many operands waited, or not.
-fn judge(most: usize, k: u8) -> Typed
-    requires { ⌜ k ≤ 1 ⌝ }
-    ensures { λ r. ⌜ r ≡ judged (gives (kindedAt k)) most ⌝ }
+fn coded(most: usize, kind: u64, draws: u64) -> u64
+    requires { ⌜ (kind ≤ 1) × (draws ≤ 512) ⌝ }
+    ensures { λ r. ⌜ ((n : ℕ) → draws ≡ 8 * n → r ≡ codeOf (judged (gives (kindedAt kind)) most) n) ⌝ }
 {
-    let kind = kind_named(k);
     if MOST_OPERANDS < most {
-        return Typed::TooDeep(kind);
+        return draws + kind + 2;
     }
-    Typed::Known(kind)
+    draws + kind
 }
 
-// The array has a spare slot, which is read and not used where an operation takes one operand. Only operands can make
-// more wait than before.
-fn kind_of(items: &[u64], kinds: &[u64]) -> Typed
+// One pass: the operands that wait, the most that did, and the draws. Only operands can make more wait than before.
+fn code_of_run(items: &[u64], kinds: &[u64]) -> u64
     requires { ⌜ length (now items) ≤ 64 ⌝ }
-    ensures { λ r. ⌜ r ≡ judged (runOf (kindSteps (now (kinds .entry)) (now (items .entry))) []) (deepest (now (items .entry)) 0) ⌝ }
+    ensures { λ r. ⌜ r ≡ codeOf (judged (runOf (kindSteps (now (kinds .entry)) (now (items .entry))) []) (deepest (now (items .entry)) 0)) (drawsOf (now (items .entry))) ⌝ }
 {
-    let mut stack = [BOOLEAN; 65];
     let mut depth: usize = 0;
+    let mut integers: u64 = 0;
     let mut most: usize = 0;
+    let mut draws: u64 = 0;
     for at in 0..items.len() {
         let w = items[at];
-        if items::DRAW <= w {
-            let k = operand_kind(kinds, w);
-            if INTEGER < k {
-                return Typed::IllTyped;
+        if w < items::DRAW {
+            let next = waiting::operated(w, depth, integers);
+            depth = next.depth;
+            integers = next.integers;
+            if depth == 0 {
+                return ILL_TYPED;
             }
-            stack[depth] = k;
+            continue;
+        }
+        let kind = constant_kind(kinds, w);
+        if kind < ILL {
+            integers = 2 * integers + kind as u64;
             depth += 1;
             most = larger(most, depth);
             continue;
         }
-        let takes = items::takes(w);
-        if depth < takes {
-            return Typed::IllTyped;
+        if w != items::DRAW {
+            return ILL_TYPED;
         }
-        let base = depth - takes;
-        let a = stack[base];
-        let b = stack[base + 1];
-        let k = operation_kind(w, takes, a, b);
-        if INTEGER < k {
-            return Typed::IllTyped;
-        }
-        stack[base] = k;
-        depth = base + 1;
+        integers = 2 * integers;
+        depth += 1;
+        most = larger(most, depth);
+        draws += 8;
     }
     if depth != 1 {
-        return Typed::IllTyped;
+        return ILL_TYPED;
     }
-    let k = stack[0];
-    judge(most, k)
+    coded(most, integers, draws)
+}
+
+fn code_of(items: &[u64], kinds: &[u64]) -> u64
+    ensures { λ r. ⌜ r ≡ codeOf (typeOf (now (kinds .entry)) (now (items .entry))) (drawsOf (now (items .entry))) ⌝ }
+{
+    if MOST_ITEMS < items.len() {
+        return TABLE_FULL;
+    }
+    code_of_run(items, kinds)
+}
+
+// The kind or the refusal in the answer as one number.
+fn typed_in(code: u64) -> Typed
+    ensures { λ r. ⌜ r ≡ typedIn code ⌝ }
+{
+    let answer = code % 8;
+    match answer {
+        0 => Typed::Known(Type::Boolean),
+        1 => Typed::Known(Type::Integer),
+        2 => Typed::TooDeep(Type::Boolean),
+        3 => Typed::TooDeep(Type::Integer),
+        ILL_TYPED => Typed::IllTyped,
+        _ => Typed::TableFull,
+    }
+}
+
+// The kind of an expression over variables of these kinds, and its draws.
+pub fn judge(items: &[u64], kinds: &[u64]) -> Judged
+    ensures { λ r. ⌜ r ≡ judgedOf (now (kinds .entry)) (now (items .entry)) ⌝ }
+{
+    let code = code_of(items, kinds);
+    Judged {
+        typed: typed_in(code),
+        draws: (code / 8) as usize,
+    }
 }
 
 // The kind of an expression over variables of these kinds.
 pub fn type_of(items: &[u64], kinds: &[u64]) -> Typed
     ensures { λ r. ⌜ r ≡ typeOf (now (kinds .entry)) (now (items .entry)) ⌝ }
 {
-    if MOST_ITEMS < items.len() {
-        return Typed::TableFull;
-    }
-    kind_of(items, kinds)
+    typed_in(code_of(items, kinds))
 }

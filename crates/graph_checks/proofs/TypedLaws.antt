@@ -7,12 +7,11 @@ use borrow.Author.Tests.{leb-true}
 use lib.Dec.{leb}
 use lib.ListN.{length}
 use Rattle.laws.specs.Ladder.{unless}
-use Rattle.grammar.specs.Typing.{typeOf}
+use Rattle.grammar.specs.Typing.{typeOf, isTyped, kinded, kindedAs, tooDeep, tooLong, typedAs}
 use Rattle.grammar.specs.declared.typing.Typed.{Typed}
 use Rattle.grammar.specs.declared.typing.Typed.the-variants.{Known, IllTyped, TableFull, TooDeep}
-use Rattle.graph_tables.specs.Formed.{typedAs, isTyped}
+use Rattle.graph_tables.specs.Sizes.{itemRoom}
 use Rattle.laws.proofs.Tests.{never}
-use Rattle.graph_checks.specs.Checks.{tooLong, tooDeep, kinded, kindedAs}
 
 -- of a kind and not too deep
 pub as-typed : (w : ℕ) (x : Typed) → kindedAs w x ≡ true → not (tooDeep x) ≡ true → typedAs w x ≡ true
@@ -32,7 +31,7 @@ unfolding unless
 short-rung true rest h = refl
 short-rung false rest h = never h
 
--- an expression that is not too long has at most 64 items
-pub short : (kinds ws : List ℕ) → not (tooLong (typeOf kinds ws)) ≡ true → length ws ≤ 64
+-- an expression that is not too long has room for its items
+pub short : (kinds ws : List ℕ) → not (tooLong (typeOf kinds ws)) ≡ true → length ws ≤ itemRoom
 unfolding typeOf
-short kinds ws h = leb-true (length ws) 64 (short-rung (leb (length ws) 64) _ h)
+short kinds ws h = leb-true (length ws) itemRoom (short-rung (leb (length ws) itemRoom) _ h)

@@ -3,13 +3,14 @@ use grammar::draws;
 use grammar::typing;
 use grammar::typing::Typed;
 use graph_edits::inner::actions;
-use graph_edits::inner::limits;
 use graph_tables::answers::Done;
 use graph_tables::formed;
 use graph_tables::handed::Limits;
 use graph_tables::handed::Vars;
 use graph_tables::ids::Action;
 use graph_tables::inner;
+use graph_tables::inner::tests;
+use graph_tables::layout;
 use graph_tables::refusals::Refusal;
 use graph_tables::sizes;
 ghost use mathlib.Core.Path.{_≡_};
@@ -18,54 +19,121 @@ ghost use Prim.Native.Nat.{ℕ, _≤_, _<_};
 ghost use lib.ListN.{length};
 ghost use Rattle.laws.specs.Below.{allBelow, sumBelow};
 ghost use Rattle.grammar.specs.Draws.{drawsOf};
-ghost use Rattle.grammar.specs.Typing.{typeOf};
-ghost use Rattle.graph_tables.specs.Words.{actionCount, actionKind, kindsOf};
+ghost use Rattle.grammar.specs.Typing.{typeOf, tooDeep};
+ghost use Rattle.graph_tables.specs.Sizes.{limitRoom, messageRoom, itemRoom, plainKind};
+ghost use Rattle.graph_tables.specs.Words.{actionCount, actionKind, kindsOf, Words, locationCount};
 ghost use Rattle.graph_tables.specs.Sound.{Sound};
+ghost use Rattle.graph_tables.specs.declared.answers.Done.the-variants.{Accepted};
 ghost use Rattle.graph_edits.specs.Edits.{chosen};
-ghost use Rattle.graph_checks.specs.Checks.{eachBelow, tooLong, tooDeep, kinded, kindedAs, limitsCheck, locationCheck, startCheck, initialCheck, plainCheck, resetRoom, resetCheck, effectRoom, assignedCheck, actionEffectCheck, knownEffectCheck, effectCheck, typedCheck, expressionCheck, shallow, messageDraws, sendRoom, sendCheck, varKnown, receiveCheck, endsCheck, guardCheck, ifGuarded, guardRoom, conditionsCheck, transitionCheck};
+ghost use Rattle.graph_checks.specs.Checks.{roomFor, eachBelow, varCheck, clockCheck, actionCheck, zeroAt, placeCheck, processCheck, clockKnown, clocksKnown, startsInside, allStartInside, limitsCheck, locationCheck, startCheck, initialCheck, plainCheck, roomForReset, resetCheck, roomForEffect, assignedCheck, actionEffectCheck, knownEffectCheck, effectCheck, typedCheck, expressionCheck, shallow, messageDraws, sendRoom, sendCheck, varKnown, receiveCheck, endsCheck, guardCheck, ifGuarded, guardRoom, conditionsCheck, transitionCheck};
 
-fn too_long(typed: Typed) -> bool
-    ensures { λ r. ⌜ r ≡ tooLong typed ⌝ }
+fn room_for(n: usize, size: usize) -> Done
+    ensures { λ r. ⌜ r ≡ roomFor n size Accepted ⌝ }
 {
-    match typed {
-        Typed::Known(_) => false,
-        Typed::IllTyped => false,
-        Typed::TableFull => true,
-        Typed::TooDeep(_) => false,
+    if size <= n {
+        return Done::Refused(Refusal::TableFull);
     }
+    Done::Accepted
 }
 
-fn too_deep(typed: Typed) -> bool
-    ensures { λ r. ⌜ r ≡ tooDeep typed ⌝ }
+pub fn var_check(t: &[u64]) -> Done
+    ensures { λ r. ⌜ r ≡ varCheck (now (t .entry)) ⌝ }
 {
-    match typed {
-        Typed::Known(_) => false,
-        Typed::IllTyped => false,
-        Typed::TableFull => false,
-        Typed::TooDeep(_) => true,
+    if !formed::well_formed(t, true) {
+        return Done::Refused(Refusal::BadState);
     }
+    room_for(inner::variable_count(t), sizes::VARIABLES)
 }
 
-fn has_kind(typed: Typed) -> bool
-    ensures { λ r. ⌜ r ≡ kinded typed ⌝ }
+pub fn clock_check(t: &[u64]) -> Done
+    ensures { λ r. ⌜ r ≡ clockCheck (now (t .entry)) ⌝ }
 {
-    match typed {
-        Typed::Known(_) => true,
-        Typed::IllTyped => false,
-        Typed::TableFull => false,
-        Typed::TooDeep(_) => true,
+    if !formed::well_formed(t, true) {
+        return Done::Refused(Refusal::BadState);
     }
+    room_for(inner::clock_count(t), sizes::CLOCKS)
 }
 
-fn kinded_as(w: u64, typed: Typed) -> bool
-    ensures { λ r. ⌜ r ≡ kindedAs w typed ⌝ }
+pub fn action_check(t: &[u64]) -> Done
+    ensures { λ r. ⌜ r ≡ actionCheck (now (t .entry)) ⌝ }
 {
-    match typed {
-        Typed::Known(k) => k.word() == w,
-        Typed::IllTyped => false,
-        Typed::TableFull => false,
-        Typed::TooDeep(k) => k.word() == w,
+    if !formed::well_formed(t, true) {
+        return Done::Refused(Refusal::BadState);
     }
+    room_for(inner::action_count(t), sizes::ACTIONS)
+}
+
+// Whether the invariants of a location contain time 0.
+fn zero_at(t: &[u64], l: usize) -> bool
+    requires { ⌜ Sound (now t) × (l < locationCount (now t)) ⌝ }
+    ensures { λ r. ⌜ r ≡ zeroAt (now (t .entry)) l ⌝ }
+{
+    tests::all_zero_inside(t, inner::invariant_group(l), inner::invariant_count(t, l))
+}
+
+// A process at a location that is there.
+fn place_check(t: &[u64], l: usize) -> Done
+    requires { ⌜ Sound (now t) × (l < locationCount (now t)) ⌝ }
+    ensures { λ r. ⌜ r ≡ placeCheck (now (t .entry)) l ⌝ }
+{
+    if !zero_at(t, l) {
+        return Done::Refused(Refusal::Invariant);
+    }
+    room_for(inner::process_count(t), sizes::PROCESSES)
+}
+
+pub fn process_check(t: &[u64], location: u32) -> Done
+    ensures { λ r. ⌜ r ≡ processCheck (now (t .entry)) location ⌝ }
+{
+    if !formed::well_formed(t, true) {
+        return Done::Refused(Refusal::BadState);
+    }
+    if inner::location_count(t) <= location as usize {
+        return Done::Refused(Refusal::MissingLocation);
+    }
+    place_check(t, location as usize)
+}
+
+fn clock_known(t: &[u64], handed: Limits, i: usize) -> bool
+    requires { ⌜ Words (now t) × (i < limitRoom) ⌝ }
+    ensures { λ r. ⌜ r ≡ clockKnown (now (t .entry)) handed i ⌝ }
+{
+    let limit = handed.limits[i];
+    (limit.clock.0 as usize) < inner::clock_count(t)
+}
+
+// Whether every handed limit is of a known clock.
+fn clocks_known(t: &[u64], handed: Limits) -> bool
+    requires { ⌜ Words (now t) × (handed .count ≤ limitRoom) ⌝ }
+    ensures { λ r. ⌜ r ≡ clocksKnown (now (t .entry)) handed ⌝ }
+{
+    for i in 0..handed.count {
+        if !clock_known(t, handed, i) {
+            return false;
+        }
+    }
+    true
+}
+
+fn starts_inside(handed: Limits, i: usize) -> bool
+    requires { ⌜ i < limitRoom ⌝ }
+    ensures { λ r. ⌜ r ≡ startsInside handed i ⌝ }
+{
+    let limit = handed.limits[i];
+    limit.range.contains(0)
+}
+
+// Whether every handed limit contains time 0.
+fn all_start_inside(handed: Limits) -> bool
+    requires { ⌜ handed .count ≤ limitRoom ⌝ }
+    ensures { λ r. ⌜ r ≡ allStartInside handed ⌝ }
+{
+    for i in 0..handed.count {
+        if !starts_inside(handed, i) {
+            return false;
+        }
+    }
+    true
 }
 
 fn limits_check(t: &[u64], handed: Limits) -> Done
@@ -75,7 +143,7 @@ fn limits_check(t: &[u64], handed: Limits) -> Done
     if sizes::LIMITS < handed.count {
         return Done::Refused(Refusal::TableFull);
     }
-    if !limits::clocks_known(t, handed) {
+    if !clocks_known(t, handed) {
         return Done::Refused(Refusal::MissingClock);
     }
     Done::Accepted
@@ -99,10 +167,10 @@ pub fn location_check(t: &[u64], handed: Limits) -> Done
 
 // A process at a new location.
 fn start_check(t: &[u64], handed: Limits) -> Done
-    requires { ⌜ Sound (now t) × (handed .count ≤ 8) ⌝ }
+    requires { ⌜ Sound (now t) × (handed .count ≤ limitRoom) ⌝ }
     ensures { λ r. ⌜ r ≡ startCheck (now (t .entry)) handed ⌝ }
 {
-    if !limits::all_start_inside(handed) {
+    if !all_start_inside(handed) {
         return Done::Refused(Refusal::Invariant);
     }
     if sizes::LOCATIONS <= inner::location_count(t) {
@@ -136,10 +204,10 @@ fn plain_check(t: &[u64], a: usize) -> Done
         return Done::Refused(Refusal::MissingAction);
     }
     let kind = inner::action_kind(t, a);
-    if kind == 1 {
+    if kind == layout::SEND {
         return Done::Refused(Refusal::EffectOnSend);
     }
-    if kind == 2 {
+    if kind == layout::RECEIVE {
         return Done::Refused(Refusal::EffectOnReceive);
     }
     Done::Accepted
@@ -148,7 +216,7 @@ fn plain_check(t: &[u64], a: usize) -> Done
 // A clock among the resets of an action.
 fn reset_room(t: &[u64], a: usize) -> Done
     requires { ⌜ Sound (now t) ⌝ }
-    ensures { λ r. ⌜ r ≡ resetRoom (now (t .entry)) a ⌝ }
+    ensures { λ r. ⌜ r ≡ roomForReset (now (t .entry)) a ⌝ }
 {
     let plain = plain_check(t, a);
     if let Done::Refused(r) = plain {
@@ -177,17 +245,17 @@ pub fn reset_check(t: &[u64], action: u32, clock: u32) -> Done
 
 // Room for an effect of a plain action, and for its draws.
 fn effect_room(t: &[u64], a: usize, typed: Typed, draws: usize) -> Done
-    requires { ⌜ Sound (now t) × (a < actionCount (now t)) × (actionKind (now t) a ≡ 0) × (draws ≤ 64) ⌝ }
-    ensures { λ r. ⌜ r ≡ effectRoom (now (t .entry)) a typed draws ⌝ }
+    requires { ⌜ Sound (now t) × (a < actionCount (now t)) × (actionKind (now t) a ≡ plainKind) × (draws ≤ itemRoom) ⌝ }
+    ensures { λ r. ⌜ r ≡ roomForEffect (now (t .entry)) a typed draws ⌝ }
 {
-    if too_deep(typed) {
+    if typed.too_deep() {
         return Done::Refused(Refusal::TableFull);
     }
     let n = inner::effect_count(t, a);
     if sizes::EFFECTS <= n {
         return Done::Refused(Refusal::TableFull);
     }
-    if sizes::DRAWS < inner::all_draws(t, a, n) + draws {
+    if sizes::DRAWS < tests::all_draws(t, a, n) + draws {
         return Done::Refused(Refusal::TableFull);
     }
     Done::Accepted
@@ -198,23 +266,23 @@ fn assigned_check(t: &[u64], v: usize, typed: Typed) -> Done
     requires { ⌜ Sound (now t) ⌝ }
     ensures { λ r. ⌜ r ≡ assignedCheck (now (t .entry)) v typed ⌝ }
 {
-    if too_long(typed) {
+    if typed.too_long() {
         return Done::Refused(Refusal::TableFull);
     }
-    if !has_kind(typed) {
+    if !typed.has_kind() {
         return Done::Refused(Refusal::Type);
     }
     if inner::variable_count(t) <= v {
         return Done::Refused(Refusal::MissingVar);
     }
-    if !kinded_as(inner::kind_at(t, v), typed) {
+    if !typed.kinded_as(inner::kind_at(t, v)) {
         return Done::Refused(Refusal::TypeMismatch);
     }
     Done::Accepted
 }
 
 fn action_effect_check(t: &[u64], a: usize, items: &[u64], typed: Typed) -> Done
-    requires { ⌜ Sound (now t) × (length (now items) ≤ 64) ⌝ }
+    requires { ⌜ Sound (now t) × (length (now items) ≤ itemRoom) ⌝ }
     ensures { λ r. ⌜ r ≡ actionEffectCheck (now (t .entry)) a typed (drawsOf (now (items .entry))) ⌝ }
 {
     let plain = plain_check(t, a);
@@ -252,10 +320,10 @@ fn expression_check(items: &[u64], kinds: &[u64]) -> Done
     ensures { λ r. ⌜ r ≡ typedCheck (typeOf (now (kinds .entry)) (now (items .entry))) ⌝ }
 {
     let typed = typing::type_of(items, kinds);
-    if too_long(typed) {
+    if typed.too_long() {
         return Done::Refused(Refusal::TableFull);
     }
-    if !has_kind(typed) {
+    if !typed.has_kind() {
         return Done::Refused(Refusal::Type);
     }
     Done::Accepted
@@ -284,7 +352,7 @@ fn message_check<'a>(
 fn is_shallow(items: &[u64], kinds: &[u64]) -> bool
     ensures { λ r. ⌜ r ≡ not (tooDeep (typeOf (now (kinds .entry)) (now (items .entry)))) ⌝ }
 {
-    !too_deep(typing::type_of(items, kinds))
+    !typing::type_of(items, kinds).too_deep()
 }
 
 fn all_shallow<'a>(
@@ -307,7 +375,7 @@ fn all_shallow<'a>(
 }
 
 fn message_draws<'a>(w: &'a [u64], x: &'a [u64], y: &'a [u64], z: &'a [u64], count: usize) -> usize
-    requires { ⌜ (count ≤ 4) × ((i : ℕ) → i < count → length (chosen (now w) (now x) (now y) (now z) i) ≤ 64) ⌝ }
+    requires { ⌜ (count ≤ messageRoom) × ((i : ℕ) → i < count → length (chosen (now w) (now x) (now y) (now z) i) ≤ itemRoom) ⌝ }
     ensures { λ r. ⌜ r ≡ sumBelow count (messageDraws (chosen (now (w .entry)) (now (x .entry)) (now (y .entry)) (now (z .entry)))) ⌝ }
 {
     let mut sum: usize = 0;
@@ -325,7 +393,7 @@ fn send_room<'a>(
     z: &'a [u64],
     count: usize,
 ) -> Done
-    requires { ⌜ Sound (now t) × (count ≤ 4) × ((i : ℕ) → i < count → length (chosen (now w) (now x) (now y) (now z) i) ≤ 64) ⌝ }
+    requires { ⌜ Sound (now t) × (count ≤ messageRoom) × ((i : ℕ) → i < count → length (chosen (now w) (now x) (now y) (now z) i) ≤ itemRoom) ⌝ }
     ensures { λ r. ⌜ r ≡ sendRoom (now (t .entry)) (chosen (now (w .entry)) (now (x .entry)) (now (y .entry)) (now (z .entry))) count ⌝ }
 {
     if !all_shallow(t, w, x, y, z, count) {
@@ -364,7 +432,7 @@ pub fn send_check<'a>(
 }
 
 fn var_known(t: &[u64], handed: Vars, i: usize) -> bool
-    requires { ⌜ Sound (now t) × (i < 4) ⌝ }
+    requires { ⌜ Sound (now t) × (i < messageRoom) ⌝ }
     ensures { λ r. ⌜ r ≡ varKnown (now (t .entry)) handed i ⌝ }
 {
     let var = handed.vars[i];
@@ -372,7 +440,7 @@ fn var_known(t: &[u64], handed: Vars, i: usize) -> bool
 }
 
 fn vars_known(t: &[u64], handed: Vars) -> bool
-    requires { ⌜ Sound (now t) × (handed .count ≤ 4) ⌝ }
+    requires { ⌜ Sound (now t) × (handed .count ≤ messageRoom) ⌝ }
     ensures { λ r. ⌜ r ≡ allBelow (handed .count) (varKnown (now (t .entry)) handed) ⌝ }
 {
     for i in 0..handed.count {
@@ -412,7 +480,7 @@ fn ends_check(t: &[u64], pre: u32, action: u32, post: u32) -> Done
     if n <= post as usize {
         return Done::Refused(Refusal::MissingLocation);
     }
-    if !inner::action_known(t, action as u64) {
+    if !tests::action_known(t, action) {
         return Done::Refused(Refusal::MissingAction);
     }
     Done::Accepted
@@ -424,16 +492,16 @@ fn guard_check(t: &[u64], items: &[u64]) -> Done
     ensures { λ r. ⌜ r ≡ guardCheck (now (t .entry)) (now (items .entry)) ⌝ }
 {
     let typed = typing::type_of(items, inner::kinds_of(t));
-    if too_long(typed) {
+    if typed.too_long() {
         return Done::Refused(Refusal::TableFull);
     }
-    if !kinded_as(0, typed) {
+    if !typed.kinded_as(0) {
         return Done::Refused(Refusal::Type);
     }
     if draws::has_draws(items) {
         return Done::Refused(Refusal::Type);
     }
-    if too_deep(typed) {
+    if typed.too_deep() {
         return Done::Refused(Refusal::TableFull);
     }
     Done::Accepted

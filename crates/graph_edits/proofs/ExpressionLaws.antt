@@ -10,6 +10,8 @@ use borrow.Author.Tests.{ltb-true, ltb-false}
 use lib.Dec.{ltb}
 use lib.ListN.{length, getD, set, length-set}
 use lib.Seq.{getD-set-same, getD-set-other}
+use Rattle.graph_tables.specs.Layout.{effectsStart, varCell, lengthCell, effectSlot}
+use Rattle.graph_tables.specs.Sizes.{actionRoom, effectRoom, messageRoom, itemRoom}
 use Rattle.graph_tables.specs.declared.handed.Vars.{Vars}
 use Rattle.graph_tables.specs.Handed.{handedVar}
 use Rattle.graph_tables.specs.Words.{Words, effectVar, effectLength, effectItems}
@@ -19,16 +21,16 @@ use Rattle.graph_edits.proofs.ReadLaws.{paste-length, paste-before, pas
 
 -- word j is none of expression e of action a: not its length, none of its items
 pub record Apart (a e j : ℕ) : Type 0 where
-  pub no-length : j ≢ 109 + 51 * a + e
-  pub no-item : (k : ℕ) → k < 64 → j ≢ 14122 + 64 * (32 * e + a) + k
+  pub no-length : j ≢ lengthCell a e
+  pub no-item : (k : ℕ) → k < itemRoom → j ≢ effectSlot a e + k
 
 module _ (a e : ℕ) where
   -- a word before the items
-  pub apart-row : (j : ℕ) → j < 14122 → j ≢ 109 + 51 * a + e → Apart a e j
+  pub apart-row : (j : ℕ) → j < effectsStart → j ≢ lengthCell a e → Apart a e j
   apart-row j l other = record { no-length = other; no-item = omega arith }
 
   -- an item of another expression, of this action or of another
-  pub apart-item : (b f k : ℕ) → a < 32 → e < 16 → k < 64 → 32 * f + b ≢ 32 * e + a → Apart a e (14122 + 64 * (32 * f + b) + k)
+  pub apart-item : (b f k : ℕ) → a < actionRoom → e < effectRoom → k < itemRoom → actionRoom * f + b ≢ actionRoom * e + a → Apart a e (effectSlot b f + k)
   apart-item b f k known few l other = record { no-length = omega arith; no-item = omega arith }
 
 -- ---- u is t but for expression e of action a
@@ -38,8 +40,8 @@ pub record Expression (t : List ℕ) (a e : ℕ) (ws u : List ℕ) : Type 0 wher
   pub long : effectLength u a e ≡ length ws
   pub items : effectItems u a e ≡ ws
 
-module _ (t : List ℕ) (a e : ℕ) (ws : List ℕ) (words : Words t) (known : a < 32) (few : e < 16) (short : length ws ≤ 64) where
-  room : 14122 + 64 * (32 * e + a) + length ws ≤ length (set t (109 + 51 * a + e) (length ws))
+module _ (t : List ℕ) (a e : ℕ) (ws : List ℕ) (words : Words t) (known : a < actionRoom) (few : e < effectRoom) (short : length ws ≤ itemRoom) where
+  room : effectSlot a e + length ws ≤ length (set t (lengthCell a e) (length ws))
   room = simp length-set (omega arith)
 
   written-other : (j : ℕ) → Apart a e j → getD (withExpression t a e ws) j 0 ≡ getD t j 0
@@ -47,9 +49,9 @@ module _ (t : List ℕ) (a e : ℕ) (ws : List ℕ) (words : Words t) (known : a
   written-other j apart = by (ltb j at) refl ∙ getD-set-other t _ j _ 0 (apart .no-length)
     where
       at : ℕ
-      at = 14122 + 64 * (32 * e + a)
+      at = effectSlot a e
 
-      by : (test : Bool) → ltb j at ≡ test → getD (withExpression t a e ws) j 0 ≡ getD (set t (109 + 51 * a + e) (length ws)) j 0
+      by : (test : Bool) → ltb j at ≡ test → getD (withExpression t a e ws) j 0 ≡ getD (set t (lengthCell a e) (length ws)) j 0
       by true q = paste-before _ _ ws room j (ltb-true j at q)
       by false q =
           let past : at ≤ j = ltb-false j at q in
@@ -75,15 +77,15 @@ pub record Message (t : List ℕ) (a : ℕ) (m : ℕ → List ℕ) (n : ℕ) (u 
   pub items : (i : ℕ) → i < n → effectItems u a i ≡ m i
 
 abbrev pub Short : (ℕ → List ℕ) → ℕ → Type 0
-Short m n = (i : ℕ) → i < n → length (m i) ≤ 64
+Short m n = (i : ℕ) → i < n → length (m i) ≤ itemRoom
 
 -- one expression more
-module _ (t : List ℕ) (a : ℕ) (m : ℕ → List ℕ) (n : ℕ) (u w : List ℕ) (known : a < 32) (few : n < 4) (short : Short m (suc n)) (so : Message t a m n u) (new : Expression u a n (m n) w) where
+module _ (t : List ℕ) (a : ℕ) (m : ℕ → List ℕ) (n : ℕ) (u w : List ℕ) (known : a < actionRoom) (few : n < messageRoom) (short : Short m (suc n)) (so : Message t a m n u) (new : Expression u a n (m n) w) where
   more-long : (i : ℕ) → i < suc n → effectLength w a i ≡ length (m i)
   more-long i l =
       ⊎-elim
       (λ (q : i ≡ n). rw q (new .long))
-      (λ (k : i < n). new .other (109 + 51 * a + i) (apart-row a n _ (omega arith) (omega arith)) ∙ so .long i k)
+      (λ (k : i < n). new .other (lengthCell a i) (apart-row a n _ (omega arith) (omega arith)) ∙ so .long i k)
       (eq-or-lt-of-le (le-of-suc-le-suc l))
 
   more-items : (i : ℕ) → i < suc n → effectItems w a i ≡ m i
@@ -92,9 +94,9 @@ module _ (t : List ℕ) (a : ℕ) (m : ℕ → List ℕ) (n : ℕ) (u w : List �
       (λ (q : i ≡ n). rw q (new .items))
       (λ (k : i < n).
       let same : effectLength w a i ≡ effectLength u a i = more-long i l ∙ sym (so .long i k) in
-      let room : effectLength u a i ≤ 64 = rw (so .long i k) (short i l) in
-      let at = 14122 + 64 * (32 * i + a) in
-      rw same (items-moved u w at at 64 (effectLength u a i) room (omega arith) (omega arith) (λ j h. new .other (at + j) (apart-item a n a i j known (omega arith) h (omega arith))))
+      let room : effectLength u a i ≤ itemRoom = rw (so .long i k) (short i l) in
+      let at = effectSlot a i in
+      rw same (items-moved u w at at itemRoom (effectLength u a i) room (omega arith) (omega arith) (λ j h. new .other (at + j) (apart-item a n a i j known (omega arith) h (omega arith))))
       ∙ so .items i k)
       (eq-or-lt-of-le (le-of-suc-le-suc l))
 
@@ -107,7 +109,7 @@ module _ (t : List ℕ) (a : ℕ) (m : ℕ → List ℕ) (n : ℕ) (u w : List �
         items = more-items;
       }
 
-pub message : (t : List ℕ) (a : ℕ) (m : ℕ → List ℕ) (n : ℕ) → Words t → a < 32 → n ≤ 4 → Short m n → Message t a m n (withExpressions t a m n)
+pub message : (t : List ℕ) (a : ℕ) (m : ℕ → List ℕ) (n : ℕ) → Words t → a < actionRoom → n ≤ messageRoom → Short m n → Message t a m n (withExpressions t a m n)
 unfolding withExpressions
 message t a m zero words known few short =
     record { words = words; other = λ j apart. refl; long = λ i l. absurd (omega arith); items = λ i l. absurd (omega arith) }
@@ -123,13 +125,13 @@ module _ (t : List ℕ) (a : ℕ) (v : Vars) where
   targets-words zero words = words
   targets-words (suc n) words = length-set (withTargets t a v n) _ _ ∙ targets-words n words
 
-  pub targets-other : (n j : ℕ) → ((i : ℕ) → i < n → j ≢ 93 + 51 * a + i) → getD (withTargets t a v n) j 0 ≡ getD t j 0
+  pub targets-other : (n j : ℕ) → ((i : ℕ) → i < n → j ≢ varCell a i) → getD (withTargets t a v n) j 0 ≡ getD t j 0
   unfolding withTargets
   targets-other zero j other = refl
   targets-other (suc n) j other =
       getD-set-other (withTargets t a v n) _ j _ 0 (other n (omega arith)) ∙ targets-other n j (λ i l. other i (omega arith))
 
-  pub targets-var : (n : ℕ) → Words t → a < 32 → n ≤ 4 → (i : ℕ) → i < n → effectVar (withTargets t a v n) a i ≡ handedVar v i
+  pub targets-var : (n : ℕ) → Words t → a < actionRoom → n ≤ messageRoom → (i : ℕ) → i < n → effectVar (withTargets t a v n) a i ≡ handedVar v i
   unfolding withTargets
   targets-var zero words known few i l = absurd (omega arith)
   targets-var (suc n) words known few i l =

@@ -10,7 +10,9 @@ use borrow.Author.Tests.{ltb-true, ltb-false, leb-true, eqb-true, eqb-false}
 use lib.Dec.{eqb, ltb}
 use lib.ListN.{getD}
 use Rattle.laws.proofs.BelowLaws.{and-first, and-rest}
-use Rattle.graph_tables.specs.Words.{Words, variableCount, clockCount, locationCount, actionCount, processCount, transitionCount, valueAt, placeAt, invariantCount, keyOf}
+use Rattle.graph_tables.specs.Layout.{variablesCell, clocksCell, locationsCell, actionsCell, processesCell, transitionsCell, actionsStart, transitionsStart, effectsStart, actionWidth, transitionWidth, kindCell, valueCell, placeCell, invariantsCell, actionRow, transitionRow, groupStart, guardSlot}
+use Rattle.graph_tables.specs.Sizes.{actionRoom, limitRoom, effectRoom, itemRoom}
+use Rattle.graph_tables.specs.Words.{Words, variableCount, clockCount, locationCount, actionCount, processCount, transitionCount, valueAt, placeAt, invariantCount, keyOf, invariantGroup}
 use Rattle.graph_tables.specs.Formed.{variableFormed, locationFormed, processFormed, actionFormed, keyBefore, transitionFormed}
 use Rattle.graph_tables.specs.Sound.{Counted}
 use Rattle.graph_tables.proofs.FormedLaws.{few-limits}
@@ -19,16 +21,16 @@ use Rattle.graph_tables.proofs.KeptLaws.{Formed, Grown, Moved, GroupMoved, Item
 -- ---- parts of t stand in u where they stood
 pub record LocationStands (t u : List ℕ) (l : ℕ) : Type 0 where
   pub count : invariantCount u l ≡ invariantCount t l
-  pub group : GroupMoved t u (128 + l) (128 + l)
+  pub group : GroupMoved t u (invariantGroup l) (invariantGroup l)
 
 pub record ActionStands (t u : List ℕ) (a : ℕ) : Type 0 where
-  pub row : Moved t u (74 + 51 * a) (74 + 51 * a) 51
-  pub items : (e : ℕ) → e < 16 → ItemsKept t u a e
+  pub row : Moved t u (actionRow a) (actionRow a) actionWidth
+  pub items : (e : ℕ) → e < effectRoom → ItemsKept t u a e
 
 pub record TransitionStands (t u : List ℕ) (k : ℕ) : Type 0 where
-  pub row : Moved t u (1706 + 3 * k) (1706 + 3 * k) 3
+  pub row : Moved t u (transitionRow k) (transitionRow k) transitionWidth
   pub group : GroupMoved t u k k
-  pub guard : Moved t u (5930 + 64 * k) (5930 + 64 * k) 64
+  pub guard : Moved t u (guardSlot k) (guardSlot k) itemRoom
 
 -- all of them but actions and transitions
 pub record Stands (t u : List ℕ) : Type 0 where
@@ -41,9 +43,9 @@ ordered : (t : List ℕ) (k : ℕ) → transitionFormed t k ≡ true → keyBefo
 unfolding transitionFormed
 ordered t k h = leb-true _ _ (and-first _ _ (and-rest _ _ h))
 
-pub few-invariants : (t : List ℕ) (l : ℕ) → locationFormed t l ≡ true → invariantCount t l ≤ 8
+pub few-invariants : (t : List ℕ) (l : ℕ) → locationFormed t l ≡ true → invariantCount t l ≤ limitRoom
 unfolding locationFormed
-few-invariants t l h = few-limits t (128 + l) (invariantCount t l) h
+few-invariants t l h = few-limits t (invariantGroup l) (invariantCount t l) h
 
 known-place : (t : List ℕ) (p : ℕ) → processFormed t p ≡ true → placeAt t p < locationCount t
 unfolding processFormed
@@ -65,7 +67,7 @@ module _ (t u : List ℕ) (formed : Formed t) (grown : Grown t u) where
   transitions-stand s k l = transition-kept grown k k (omega arith) (omega arith) (s k l .row) (s k l .group) (s k l .guard) (order k l) (formed .transition k l)
     where
       key : (i : ℕ) → i < transitionCount t → keyOf u i ≡ keyOf t i
-      key i m = simp add-zero at (s i m .row 0 (omega arith))
+      key i m = simp add-zero at (s i m .row variablesCell (omega arith))
 
       order : (i : ℕ) → i < transitionCount t → keyBefore u i ≤ keyOf u i
       order zero m = omega arith
@@ -100,22 +102,22 @@ module _ (t u : List ℕ) (formed : Formed t) (grown : Grown t u) where
 pub record Around (t u : List ℕ) (a : ℕ) : Type 0 where
   pub words : Words u
   pub more : actionCount t ≤ actionCount u
-  pub few : actionCount u ≤ 32
+  pub few : actionCount u ≤ actionRoom
   pub others : (b : ℕ) → b < actionCount u → b ≢ a → b < actionCount t
-  pub row : (j : ℕ) → j < 14122 → j ≢ 3 → ((i : ℕ) → i < 51 → j ≢ 74 + 51 * a + i) → getD u j 0 ≡ getD t j 0
-  pub items : (b e : ℕ) → b < 32 → b ≢ a → ItemsKept t u b e
+  pub row : (j : ℕ) → j < effectsStart → j ≢ actionsCell → ((i : ℕ) → i < actionWidth → j ≢ actionRow a + i) → getD u j 0 ≡ getD t j 0
+  pub items : (b e : ℕ) → b < actionRoom → b ≢ a → ItemsKept t u b e
 
-module _ (t u : List ℕ) (a : ℕ) (known : a < 32) (formed : Formed t) (around : Around t u a) where
+module _ (t u : List ℕ) (a : ℕ) (known : a < actionRoom) (formed : Formed t) (around : Around t u a) where
   -- the words before the actions, and those between them and the items
-  pub front : (j : ℕ) → (j < 74) × (j ≢ 3) → getD u j 0 ≡ getD t j 0
+  pub front : (j : ℕ) → (j < actionsStart) × (j ≢ actionsCell) → getD u j 0 ≡ getD t j 0
   front j l = around .row j (omega arith) (l .1) (omega arith)
 
-  back : (j : ℕ) → (1706 ≤ j) × (j < 14122) → getD u j 0 ≡ getD t j 0
+  back : (j : ℕ) → (transitionsStart ≤ j) × (j < effectsStart) → getD u j 0 ≡ getD t j 0
   back j l = around .row j (l .1) (omega arith) (omega arith)
 
   -- the other counts
   pub same : (variableCount u ≡ variableCount t) × (clockCount u ≡ clockCount t) × (locationCount u ≡ locationCount t) × (processCount u ≡ processCount t) × (transitionCount u ≡ transitionCount t)
-  same = (front 0 (omega arith), front 1 (omega arith), front 2 (omega arith), front 4 (omega arith), front 5 (omega arith))
+  same = (front variablesCell (omega arith), front clocksCell (omega arith), front locationsCell (omega arith), front processesCell (omega arith), front transitionsCell (omega arith))
 
   pub around-grown : Grown t u
   around-grown =
@@ -124,7 +126,7 @@ module _ (t u : List ℕ) (a : ℕ) (known : a < 32) (formed : Formed t) (around
         grown-words = around .words;
         variables = omega (arith, same);
         few = omega (arith, same);
-        kinds = λ v l. front (6 + v) (omega arith);
+        kinds = λ v l. front (kindCell v) (omega arith);
         clocks = omega (arith, same);
         locations = omega (arith, same);
         actions = around .more;
@@ -132,23 +134,23 @@ module _ (t u : List ℕ) (a : ℕ) (known : a < 32) (formed : Formed t) (around
 
   pub stands : Stands t u
   stands = record {
-    values = λ v l. front (22 + v) (omega arith);
-    locations = λ i l. record { count = front (42 + i) (omega arith); group = λ j h. back (2090 + 24 * (128 + i) + j) (omega arith) };
-    places = λ p l. front (38 + p) (omega arith);
+    values = λ v l. front (valueCell v) (omega arith);
+    locations = λ i l. record { count = front (invariantsCell i) (omega arith); group = λ j h. back (groupStart (invariantGroup i) + j) (omega arith) };
+    places = λ p l. front (placeCell p) (omega arith);
   }
 
   pub transition-stands : (k : ℕ) → k < transitionCount t → TransitionStands t u k
   transition-stands k l = record {
-    row = λ j h. back (1706 + 3 * k + j) (omega arith);
-    group = λ j h. back (2090 + 24 * k + j) (omega arith);
-    guard = λ j h. back (5930 + 64 * k + j) (omega arith);
+    row = λ j h. back (transitionRow k + j) (omega arith);
+    group = λ j h. back (groupStart k + j) (omega arith);
+    guard = λ j h. back (guardSlot k + j) (omega arith);
   }
 
   -- another action than a
   other-formed : (b : ℕ) → b < actionCount t → b ≢ a → actionFormed u b ≡ true
   other-formed b l other =
       action-stands t u formed around-grown b l (record {
-        row = λ j h. around .row (74 + 51 * b + j) (omega arith) (omega arith) (omega arith);
+        row = λ j h. around .row (actionRow b + j) (omega arith) (omega arith) (omega arith);
         items = λ e h. around .items b e (omega arith) other;
       })
 

@@ -6,21 +6,23 @@ use mathlib.Core.List.{List}
 use native.Mathlib.Numerals.{add-one}
 use native.Mathlib.Omega.{arith}
 use native.Mathlib.Decide.{decLt}
-use borrow.Author.Tests.{ltb-true, lt-ltb, le-leb, ne-eqb}
+use borrow.Author.Tests.{lt-ltb, le-leb, ne-eqb}
 use lib.ListN.{length, getD, set, length-set}
 use lib.Seq.{getD-set-same, getD-set-other}
 use Rattle.laws.specs.Below.{allBelow}
-use Rattle.laws.proofs.BelowLaws.{and-both, all-at, all-from, all-kept}
+use Rattle.laws.proofs.BelowLaws.{and-both, all-from}
 use Rattle.time.specs.Time.{rangeOf, inRange}
 use Rattle.time.specs.declared.Bound.{Bound}
 use Rattle.time.specs.declared.Bound.the-variants.{Included, Excluded, Unbounded}
 use Rattle.time.specs.declared.TimeRange.{TimeRange}
+use Rattle.graph_tables.specs.Layout.{clocksCell, groupWidth, groupStart, limitRow, lowerCell, upperCell}
+use Rattle.graph_tables.specs.Sizes.{limitRoom, groupRoom, word32}
 use Rattle.graph_tables.specs.declared.handed.Limits.{Limits}
 use Rattle.graph_tables.specs.Handed.{handedClock, handedRange}
-use Rattle.graph_tables.specs.Words.{Words, clockCount, clockOf, lowerOf, upperOf, boundOf}
+use Rattle.graph_tables.specs.Words.{Words, clockCount, clockOf, lowerOf, upperOf, boundOf, boundWord}
 use Rattle.graph_tables.specs.Formed.{boundFormed, clockBefore, limitFormed, limitsFormed, zeroInside}
 use Rattle.graph_edits.specs.Rows.{gapOf}
-use Rattle.graph_edits.specs.Edits.{BoundFits, LimitsFit, boundWord, limitPlace, withLimit, withLimits, clockKnown, clocksKnown, startsInside, allStartInside}
+use Rattle.graph_edits.specs.Edits.{BoundFits, LimitsFit, ClocksKnown, StartInside, limitPlace, withLimit, withLimits}
 use Rattle.graph_edits.proofs.ReadLaws.{gap-length, gap-before, gap-moved, gap-after}
 use Rattle.graph_edits.proofs.PlaceLaws.{place-bound, place-above, place-below}
 
@@ -106,8 +108,8 @@ ordered f h n k p bound above below before here behind order i l =
     (λ q. absurd (omega arith)))
 
 -- ---- a limit more in group g, which has n
-limit-put : (t : List ℕ) (g n clock : ℕ) (range : TimeRange) → Words t → g < 160 → n < 8
-    → Put t (withLimit t g n clock range) (2090 + 24 * g + 3 * limitPlace t g n clock) (2090 + 24 * g + 3 * n)
+limit-put : (t : List ℕ) (g n clock : ℕ) (range : TimeRange) → Words t → g < groupRoom → n < limitRoom
+    → Put t (withLimit t g n clock range) (limitRow g (limitPlace t g n clock)) (limitRow g n)
     clock (boundWord (range .lower)) (boundWord (range .upper))
 unfolding withLimit
 limit-put t g n clock range words known room =
@@ -115,8 +117,8 @@ limit-put t g n clock range words known room =
     put t _ _ _ _ _ (omega arith) (omega arith)
 
 -- u is t with a limit of these words more, at place p of n
-module _ (t u : List ℕ) (g p n a b c : ℕ) (least : p ≤ n) (new : Put t u (2090 + 24 * g + 3 * p) (2090 + 24 * g + 3 * n) a b c) where
-  behind : (j k : ℕ) → k ≡ j + 3 → 2090 + 24 * g + 3 * p ≤ j → j < 2090 + 24 * g + 3 * n → getD u k 0 ≡ getD t j 0
+module _ (t u : List ℕ) (g p n a b c : ℕ) (least : p ≤ n) (new : Put t u (limitRow g p) (limitRow g n) a b c) where
+  behind : (j k : ℕ) → k ≡ j + 3 → limitRow g p ≤ j → j < limitRow g n → getD u k 0 ≡ getD t j 0
   behind j k e l m = rw e (new .moved j l m)
 
   each-put : (P : ℕ → ℕ → ℕ → Type 0) → ((i : ℕ) → i < n → P (clockOf t g i) (lowerOf t g i) (upperOf t g i)) → P a b c
@@ -125,26 +127,24 @@ module _ (t u : List ℕ) (g p n a b c : ℕ) (least : p ≤ n) (new : Put t u (
       sides i p
       (λ m.
       rw (
-        new .before (2090 + 24 * g + 3 * i) (omega arith),
-        new .before (2091 + 24 * g + 3 * i) (omega arith),
-        new .before (2092 + 24 * g + 3 * i) (omega arith),
+        new .before (limitRow g i) (omega arith),
+        new .before (lowerCell g i) (omega arith),
+        new .before (upperCell g i) (omega arith),
       )
       (old i (omega arith)))
       (λ e.
-      let one : 2091 + 24 * g + 3 * i ≡ 2090 + 24 * g + 3 * p + 1 = omega arith in
-      let two : 2092 + 24 * g + 3 * i ≡ 2090 + 24 * g + 3 * p + 2 = omega arith in
-      rw (one, two, e, new .first, new .second, new .third) more)
+      rw (e, new .first, new .second, new .third) more)
       (λ m.
       let k = i - 1 in
       rw (
-        behind (2090 + 24 * g + 3 * k) (2090 + 24 * g + 3 * i) (omega arith) (omega arith) (omega arith),
-        behind (2091 + 24 * g + 3 * k) (2091 + 24 * g + 3 * i) (omega arith) (omega arith) (omega arith),
-        behind (2092 + 24 * g + 3 * k) (2092 + 24 * g + 3 * i) (omega arith) (omega arith) (omega arith),
+        behind (limitRow g k) (limitRow g i) (omega arith) (omega arith) (omega arith),
+        behind (lowerCell g k) (lowerCell g i) (omega arith) (omega arith) (omega arith),
+        behind (upperCell g k) (upperCell g i) (omega arith) (omega arith) (omega arith),
       )
       (old k (omega arith)))
 
 -- ---- the first n of these limits
-module _ (t : List ℕ) (g : ℕ) (l : Limits) (words : Words t) (known : g < 160) where
+module _ (t : List ℕ) (g : ℕ) (l : Limits) (words : Words t) (known : g < groupRoom) where
   -- where limit n is put among those before it
   abbrev spot : ℕ → ℕ
   spot n = limitPlace (withLimits t g l n) g n (handedClock l n)
@@ -152,7 +152,7 @@ module _ (t : List ℕ) (g : ℕ) (l : Limits) (words : Words t) (known : g < 16
   spot-bound : (n : ℕ) → spot n ≤ n
   spot-bound n = place-bound (clockOf (withLimits t g l n) g) n (handedClock l n)
 
-  pub limits-length : (n : ℕ) → n ≤ 8 → length (withLimits t g l n) ≡ length t
+  pub limits-length : (n : ℕ) → n ≤ limitRoom → length (withLimits t g l n) ≡ length t
   unfolding withLimits
   limits-length zero few = refl
   limits-length (suc n) few =
@@ -160,24 +160,24 @@ module _ (t : List ℕ) (g : ℕ) (l : Limits) (words : Words t) (known : g < 16
       limit-put (withLimits t g l n) g n (handedClock l n) (handedRange l n) (e ∙ words) known few .size ∙ e
 
   -- the table with one limit more
-  pub next : (n : ℕ) → n < 8
-      → Put (withLimits t g l n) (withLimits t g l (suc n)) (2090 + 24 * g + 3 * spot n) (2090 + 24 * g + 3 * n)
+  pub next : (n : ℕ) → n < limitRoom
+      → Put (withLimits t g l n) (withLimits t g l (suc n)) (limitRow g (spot n)) (limitRow g n)
       (handedClock l n) (boundWord (handedRange l n .lower)) (boundWord (handedRange l n .upper))
   unfolding withLimits
   next n few = limit-put (withLimits t g l n) g n (handedClock l n) (handedRange l n) (limits-length n (omega arith) ∙ words) known few
 
-  pub limits-before : (n : ℕ) → n ≤ 8 → (j : ℕ) → j < 2090 + 24 * g → getD (withLimits t g l n) j 0 ≡ getD t j 0
+  pub limits-before : (n : ℕ) → n ≤ limitRoom → (j : ℕ) → j < groupStart g → getD (withLimits t g l n) j 0 ≡ getD t j 0
   unfolding withLimits
   limits-before zero few j h = refl
   limits-before (suc n) few j h = next n few .before j (omega arith) ∙ limits-before n (omega arith) j h
 
-  pub limits-after : (n : ℕ) → n ≤ 8 → (j : ℕ) → 2090 + 24 * g + 24 ≤ j → getD (withLimits t g l n) j 0 ≡ getD t j 0
+  pub limits-after : (n : ℕ) → n ≤ limitRoom → (j : ℕ) → groupStart g + groupWidth ≤ j → getD (withLimits t g l n) j 0 ≡ getD t j 0
   unfolding withLimits
   limits-after zero few j h = refl
   limits-after (suc n) few j h = next n few .after j (omega arith) ∙ limits-after n (omega arith) j h
 
   -- every limit that stands in the group is a handed one
-  pub limits-each : (P : ℕ → ℕ → ℕ → Type 0) (n : ℕ) → n ≤ 8
+  pub limits-each : (P : ℕ → ℕ → ℕ → Type 0) (n : ℕ) → n ≤ limitRoom
       → ((i : ℕ) → i < n → P (handedClock l i) (boundWord (handedRange l i .lower)) (boundWord (handedRange l i .upper)))
       → (i : ℕ) → i < n → P (clockOf (withLimits t g l n) g i) (lowerOf (withLimits t g l n) g i) (upperOf (withLimits t g l n) g i)
   limits-each P zero few h i m = absurd (omega arith)
@@ -185,7 +185,7 @@ module _ (t : List ℕ) (g : ℕ) (l : Limits) (words : Words t) (known : g < 16
       each-put (withLimits t g l n) (withLimits t g l (suc n)) g (spot n) n _ _ _ (spot-bound n) (next n few) P
       (limits-each P n (omega arith) (λ k q. h k (omega arith))) (h n (omega arith)) i (omega arith)
 
-  pub limits-ordered : (n : ℕ) → n ≤ 8 → (i : ℕ) → i + 1 < n → clockOf (withLimits t g l n) g i ≤ clockOf (withLimits t g l n) g (i + 1)
+  pub limits-ordered : (n : ℕ) → n ≤ limitRoom → (i : ℕ) → i + 1 < n → clockOf (withLimits t g l n) g i ≤ clockOf (withLimits t g l n) g (i + 1)
   limits-ordered zero few i m = absurd (omega arith)
   limits-ordered (suc n) few i m =
       ordered (clockOf (withLimits t g l n) g) (clockOf (withLimits t g l (suc n)) g) n (handedClock l n) (spot n) (spot-bound n)
@@ -194,7 +194,7 @@ module _ (t : List ℕ) (g : ℕ) (l : Limits) (words : Words t) (known : g < 16
       (next n few .first)
       (λ k q r.
       behind (withLimits t g l n) (withLimits t g l (suc n)) g (spot n) n _ _ _ (spot-bound n) (next n few)
-      (2090 + 24 * g + 3 * k) _ (omega arith) (omega arith) (omega arith))
+      (limitRow g k) _ (omega arith) (omega arith) (omega arith))
       (limits-ordered n (omega arith)) i (omega arith)
 
 -- ---- a bound, as a word and back
@@ -203,11 +203,11 @@ unfolding boundFormed
 bound-formed (Included n) h =
     let kind : (n * 4 + 1) % 4 ≡ 1 = omega arith in
     let time : (n * 4 + 1) / 4 ≡ n = omega arith in
-    rw (ne-eqb (n * 4 + 1) 0 (omega arith), kind, time) (lt-ltb n 4294967296 h)
+    rw (ne-eqb (n * 4 + 1) 0 (omega arith), kind, time) (lt-ltb n word32 h)
 bound-formed (Excluded n) h =
     let kind : (n * 4 + 2) % 4 ≡ 2 = omega arith in
     let time : (n * 4 + 2) / 4 ≡ n = omega arith in
-    rw (ne-eqb (n * 4 + 2) 0 (omega arith), kind, time) (lt-ltb n 4294967296 h)
+    rw (ne-eqb (n * 4 + 2) 0 (omega arith), kind, time) (lt-ltb n word32 h)
 bound-formed Unbounded h = refl
 
 pub bound-back : (b : Bound) → boundOf (boundWord b) ≡ b
@@ -222,17 +222,16 @@ bound-back (Excluded n) =
 bound-back Unbounded = refl
 
 -- ---- all limits that are handed
-pub clocks-same : (t u : List ℕ) (l : Limits) → clockCount u ≡ clockCount t → clocksKnown t l ≡ true → clocksKnown u l ≡ true
-unfolding clocksKnown clockKnown
-clocks-same t u l e h = all-kept (clockKnown t l) (clockKnown u l) (l .count) (λ i m k. rw e k) h
+pub clocks-same : (t u : List ℕ) (l : Limits) → clockCount u ≡ clockCount t → ClocksKnown t l → ClocksKnown u l
+clocks-same t u l e h i m = rw e (h i m)
 
-module _ (t : List ℕ) (g : ℕ) (l : Limits) (words : Words t) (known : g < 160) (few : l .count ≤ 8) where
+module _ (t : List ℕ) (g : ℕ) (l : Limits) (words : Words t) (known : g < groupRoom) (few : l .count ≤ limitRoom) where
   -- a limit that stands in the group
   abbrev Sound : ℕ → ℕ → ℕ → Type 0
   Sound clock lower upper = (clock < clockCount t) × (boundFormed lower ≡ true) × (boundFormed upper ≡ true)
 
-  pub limits-formed : clocksKnown t l ≡ true → LimitsFit l → limitsFormed (withLimits t g l (l .count)) g (l .count) ≡ true
-  unfolding limitsFormed limitFormed clocksKnown clockKnown
+  pub limits-formed : ClocksKnown t l → LimitsFit l → limitsFormed (withLimits t g l (l .count)) g (l .count) ≡ true
+  unfolding limitsFormed limitFormed
   limits-formed clocks fit = and-both (le-leb _ _ few) (all-from (limitFormed u g) (l .count) each)
     where
       u : List ℕ
@@ -242,7 +241,7 @@ module _ (t : List ℕ) (g : ℕ) (l : Limits) (words : Words t) (known : g < 16
       sound =
           limits-each t g l words known Sound (l .count) few
           (λ i m. (
-            ltb-true _ _ (all-at (clockKnown t l) (l .count) i clocks m),
+            clocks i m,
             bound-formed (handedRange l i .lower) (fit i m .0),
             bound-formed (handedRange l i .upper) (fit i m .1),
           ))
@@ -252,16 +251,16 @@ module _ (t : List ℕ) (g : ℕ) (l : Limits) (words : Words t) (known : g < 16
       order (suc i) m = rw (sym (add-one i)) (limits-ordered t g l words known (l .count) few i (omega arith))
 
       count : clockCount u ≡ clockCount t
-      count = limits-before t g l words known (l .count) few 1 (omega arith)
+      count = limits-before t g l words known (l .count) few clocksCell (omega arith)
 
       each : (i : ℕ) → i < l .count → limitFormed u g i ≡ true
       each i m =
           rw count
           (and-both (lt-ltb _ _ (sound i m .0)) (and-both (sound i m .1) (and-both (sound i m .2) (le-leb _ _ (order i m)))))
 
-  pub limits-zero : allStartInside l ≡ true → allBelow (l .count) (zeroInside (withLimits t g l (l .count)) g) ≡ true
-  unfolding allStartInside startsInside zeroInside
+  pub limits-zero : StartInside l → allBelow (l .count) (zeroInside (withLimits t g l (l .count)) g) ≡ true
+  unfolding zeroInside
   limits-zero inside =
       all-from (zeroInside (withLimits t g l (l .count)) g) (l .count)
       (limits-each t g l words known (λ clock lower upper. inRange (rangeOf (boundOf lower) (boundOf upper)) 0 ≡ true) (l .count) few
-      (λ i m. rw (bound-back (handedRange l i .lower), bound-back (handedRange l i .upper)) (all-at (startsInside l) (l .count) i inside m)))
+      (λ i m. rw (bound-back (handedRange l i .lower), bound-back (handedRange l i .upper)) (inside i m)))

@@ -4,18 +4,21 @@ use mathlib.Core.Path.{_≡_, refl, sym, ap, subst, _∙_}
 use mathlib.Core.Bool.{true}
 use mathlib.Core.List.{List, [], _∷_, _++_}
 use native.Mathlib.Numerals.{add-one}
+use native.Mathlib.Nat.{add-zero}
 use native.Mathlib.Omega.{arith}
 use borrow.Author.Tests.{lt-ltb, le-ltb}
 use lib.ListN.{length, getD, set}
+use Rattle.graph_tables.specs.Layout.{actionsCell, transitionsCell, limitsStart, effectsStart, transitionWidth, limitWidth, groupWidth, varCell, lengthCell, transitionRow, groupStart, limitRow, lowerCell, upperCell, guardSlot, effectSlot}
+use Rattle.graph_tables.specs.Sizes.{locationRoom, actionRoom, transitionRoom, limitRoom, groupRoom, effectRoom, resetRoom, messageRoom, itemRoom, sendKind, receiveKind}
 use Rattle.graph_tables.specs.declared.handed.Limits.{Limits}
 use Rattle.graph_tables.specs.declared.handed.Vars.{Vars}
 use Rattle.graph_tables.specs.Handed.{handedClock, handedRange, handedVar}
-use Rattle.graph_tables.specs.Words.{Words, locationCount, actionCount, transitionCount, resetCount, effectCount, resetAt, effectVar, effectLength, effectItems, keyOf, guardLength, limitCount}
+use Rattle.graph_tables.specs.Words.{Words, locationCount, actionCount, transitionCount, resetCount, effectCount, resetAt, effectVar, effectLength, effectItems, keyOf, guardLength, limitCount, invariantGroup, boundWord}
 use Rattle.graph_tables.specs.Sound.{TransitionSound}
 use Rattle.graph_tables.proofs.SoundLaws.{sound}
-use Rattle.graph_tables.proofs.KeptLaws.{Formed, together, Moved, GroupMoved, word-moved, items-moved, clock-moved, lower-moved, upper-moved}
+use Rattle.graph_tables.proofs.KeptLaws.{Formed, together, Moved, GroupMoved, items-moved, clock-moved, lower-moved, upper-moved}
 use Rattle.graph_edits.specs.Rows.{placeOf, gapOf}
-use Rattle.graph_edits.specs.Edits.{boundWord, limitPlace, withLimits, withLocation, withReset, withEffect, withExpressions, withSend, withTargets, withReceive, withRow, withGroup, transitionPlace, withTransition}
+use Rattle.graph_edits.specs.Edits.{limitPlace, actionPut, withLimits, withLocation, withReset, withEffect, withExpressions, withSend, withTargets, withReceive, withRow, withGroup, transitionPlace, withTransition}
 use Rattle.graph_edits.specs.Lists.{listOf, insertSorted, StoredLimit, limitAt, limitsOf, invariantsOf, handedLimit, sortedLimits, resetsOf, effectAt, effectsOf, expressionsOf, targetsOf, StoredTransition, transitionOf, transitionsOf}
 use Rattle.graph_edits.proofs.PlaceLaws.{place-bound, place-above, place-below}
 use Rattle.graph_edits.proofs.LimitLaws.{Put, bound-back, next}
@@ -77,15 +80,15 @@ module _ {A : Type 0} where
 
 -- ---- limits
 -- group g of t is group h of u
-pub group-list : (t u : List ℕ) (g h n : ℕ) → GroupMoved t u g h → n ≤ 8 → limitsOf u h n ≡ limitsOf t g n
+pub group-list : (t u : List ℕ) (g h n : ℕ) → GroupMoved t u g h → n ≤ limitRoom → limitsOf u h n ≡ limitsOf t g n
 group-list t u g h n moved few =
     list-same (limitAt t g) (limitAt u h) n
     (λ i l.
-    let room : i < 8 = omega arith in
+    let room : i < limitRoom = omega arith in
     rw (clock-moved t u g h moved i room, lower-moved t u g h moved i room, upper-moved t u g h moved i room))
 
-module _ (t : List ℕ) (g : ℕ) (l : Limits) (words : Words t) (known : g < 160) where
-  pub limits-list : (n : ℕ) → n ≤ 8 → limitsOf (withLimits t g l n) g n ≡ sortedLimits l n
+module _ (t : List ℕ) (g : ℕ) (l : Limits) (words : Words t) (known : g < groupRoom) where
+  pub limits-list : (n : ℕ) → n ≤ limitRoom → limitsOf (withLimits t g l n) g n ≡ sortedLimits l n
   unfolding listOf sortedLimits
   limits-list zero few = refl
   limits-list (suc n) few =
@@ -102,27 +105,25 @@ module _ (t : List ℕ) (g : ℕ) (l : Limits) (words : Words t) (known : g < 16
       p : ℕ
       p = limitPlace v g n (handedClock l n)
 
-      new : Put v u (2090 + 24 * g + 3 * p) (2090 + 24 * g + 3 * n) (handedClock l n) (boundWord (handedRange l n .lower)) (boundWord (handedRange l n .upper))
+      new : Put v u (limitRow g p) (limitRow g n) (handedClock l n) (boundWord (handedRange l n .lower)) (boundWord (handedRange l n .upper))
       new = next t g l words known n few
 
       before : (i : ℕ) → i < p → limitAt u g i ≡ limitAt v g i
-      before i m = rw (new .before (2090 + 24 * g + 3 * i) (omega arith), new .before (2091 + 24 * g + 3 * i) (omega arith), new .before (2092 + 24 * g + 3 * i) (omega arith))
+      before i m = rw (new .before (limitRow g i) (omega arith), new .before (lowerCell g i) (omega arith), new .before (upperCell g i) (omega arith))
 
       here : limitAt u g p ≡ handedLimit l n
       here =
-          let one : 2091 + 24 * g + 3 * p ≡ 2090 + 24 * g + 3 * p + 1 = omega arith in
-          let two : 2092 + 24 * g + 3 * p ≡ 2090 + 24 * g + 3 * p + 2 = omega arith in
-          rw (one, two, new .first, new .second, new .third, bound-back (handedRange l n .lower), bound-back (handedRange l n .upper))
+          rw (new .first, new .second, new .third, bound-back (handedRange l n .lower), bound-back (handedRange l n .upper))
 
       behind : (i : ℕ) → p ≤ i → i < n → limitAt u g (i + 1) ≡ limitAt v g i
       behind i m k =
-          let none : 2090 + 24 * g + 3 * (i + 1) ≡ 2090 + 24 * g + 3 * i + 3 = omega arith in
-          let one : 2091 + 24 * g + 3 * (i + 1) ≡ 2091 + 24 * g + 3 * i + 3 = omega arith in
-          let two : 2092 + 24 * g + 3 * (i + 1) ≡ 2092 + 24 * g + 3 * i + 3 = omega arith in
-          rw (none, one, two, new .moved (2090 + 24 * g + 3 * i) (omega arith) (omega arith), new .moved (2091 + 24 * g + 3 * i) (omega arith) (omega arith), new .moved (2092 + 24 * g + 3 * i) (omega arith) (omega arith))
+          let none : limitRow g (i + 1) ≡ limitRow g i + limitWidth = omega arith in
+          let one : lowerCell g (i + 1) ≡ lowerCell g i + limitWidth = omega arith in
+          let two : upperCell g (i + 1) ≡ upperCell g i + limitWidth = omega arith in
+          rw (one, two, none, new .moved (limitRow g i) (omega arith) (omega arith), new .moved (lowerCell g i) (omega arith) (omega arith), new .moved (upperCell g i) (omega arith) (omega arith))
 
 -- ---- actions
-module _ (t : List ℕ) (a clock : ℕ) (words : Words t) (low : a < 32) (room : resetCount t a < 16) where
+module _ (t : List ℕ) (a clock : ℕ) (words : Words t) (low : a < actionRoom) (room : resetCount t a < resetRoom) where
   pub resets-list : resetsOf (withReset t a clock) a ≡ insertSorted (λ (c : ℕ). c) clock (resetsOf t a)
   resets-list =
       let u = withReset t a clock in
@@ -132,8 +133,8 @@ module _ (t : List ℕ) (a clock : ℕ) (words : Words t) (low : a < 32) (room :
       (reset-here t a clock words low room)
       (reset-above t a clock words low room)
 
-module _ (t : List ℕ) (a v : ℕ) (ws : List ℕ) (words : Words t) (low : a < 32) (room : effectCount t a < 16) (short : length ws ≤ 64) where
-  pub effects-list : ((e : ℕ) → e < effectCount t a → effectLength t a e ≤ 64)
+module _ (t : List ℕ) (a v : ℕ) (ws : List ℕ) (words : Words t) (low : a < actionRoom) (room : effectCount t a < effectRoom) (short : length ws ≤ itemRoom) where
+  pub effects-list : ((e : ℕ) → e < effectCount t a → effectLength t a e ≤ itemRoom)
       → effectsOf (withEffect t a v ws) a ≡ effectsOf t a ++ (record { var = v; items = ws } ∷ [])
   effects-list few =
       let u = withEffect t a v ws in
@@ -143,21 +144,21 @@ module _ (t : List ℕ) (a v : ℕ) (ws : List ℕ) (words : Words t) (low : a <
     where
       old : (e : ℕ) → e < effectCount t a → effectAt (withEffect t a v ws) a e ≡ effectAt t a e
       old e l =
-          let at = 14122 + 64 * (32 * e + a) in
+          let at = effectSlot a e in
           rw (
-            effect-row t a v ws words low room short (93 + 51 * a + e) (omega arith),
-            effect-row t a v ws words low room short (109 + 51 * a + e) (omega arith),
-            items-moved t (withEffect t a v ws) at at 64 (effectLength t a e) (few e l) (omega arith) (omega (arith, effect-words t a v ws words low room short))
+            effect-row t a v ws words low room short (varCell a e) (omega arith),
+            effect-row t a v ws words low room short (lengthCell a e) (omega arith),
+            items-moved t (withEffect t a v ws) at at itemRoom (effectLength t a e) (few e l) (omega arith) (omega (arith, effect-words t a v ws words low room short))
                 (effect-other t a v ws words low room short a e (omega arith)),
           )
 
 -- the expressions of a send, and the variables of a receive, as they are handed
-pub send-list : (t : List ℕ) (m : ℕ → List ℕ) (count : ℕ) → Words t → actionCount t < 32 → count ≤ 4 → Short m count
+pub send-list : (t : List ℕ) (m : ℕ → List ℕ) (count : ℕ) → Words t → actionCount t < actionRoom → count ≤ messageRoom → Short m count
     → expressionsOf (withSend t m count) (actionCount t) ≡ listOf m count
 send-list t m count words low few short =
-    let at : actionCount w ≡ a = so .other 3 (λ i l. apart-row a i 3 (omega arith) (omega arith)) in
-    subst (λ (n : ℕ). expressionsOf (set (set (set (set w (74 + 51 * n) 1) (75 + 51 * n) 0) (76 + 51 * n) count) 3 (n + 1)) a ≡ listOf m count) (sym at)
-    (ap (listOf (effectItems u a)) (action-row w a 1 count (so .words) low .2) ∙ list-same m (effectItems u a) count each)
+    let at : actionCount w ≡ a = so .other actionsCell (λ i l. apart-row a i actionsCell (omega arith) (omega arith)) in
+    subst (λ (n : ℕ). expressionsOf (actionPut w n sendKind count) a ≡ listOf m count) (sym at)
+    (ap (listOf (effectItems u a)) (action-row w a sendKind count (so .words) low .2) ∙ list-same m (effectItems u a) count each)
   where
     a : ℕ
     a = actionCount t
@@ -166,27 +167,27 @@ send-list t m count words low few short =
     w = withExpressions t a m count
 
     u : List ℕ
-    u = set (set (set (set w (74 + 51 * a) 1) (75 + 51 * a) 0) (76 + 51 * a) count) 3 (a + 1)
+    u = actionPut w a sendKind count
 
     so : Message t a m count w
     so = message t a m count words low few short
 
     each : (i : ℕ) → i < count → effectItems u a i ≡ m i
     each i l =
-        let place = 14122 + 64 * (32 * i + a) in
-        rw (action-other w a 1 count (109 + 51 * a + i) (omega arith))
-        (items-moved w u place place 64 (effectLength w a i) (rw (so .long i l) (short i l)) (omega (arith, so .words)) (omega (arith, action-words w a 1 count (so .words) low))
-        (λ j h. action-other w a 1 count (place + j) (omega arith)))
+        let place = effectSlot a i in
+        rw (action-other w a sendKind count (lengthCell a i) (omega arith))
+        (items-moved w u place place itemRoom (effectLength w a i) (rw (so .long i l) (short i l)) (omega (arith, so .words)) (omega (arith, action-words w a sendKind count (so .words) low))
+        (λ j h. action-other w a sendKind count (place + j) (omega arith)))
         ∙ so .items i l
 
-pub receive-list : (t : List ℕ) (v : Vars) → Words t → actionCount t < 32 → v .count ≤ 4
+pub receive-list : (t : List ℕ) (v : Vars) → Words t → actionCount t < actionRoom → v .count ≤ messageRoom
     → targetsOf (withReceive t v) (actionCount t) ≡ listOf (handedVar v) (v .count)
 receive-list t v words low few =
-    let at : actionCount w ≡ a = targets-other t a v (v .count) 3 (omega arith) in
-    subst (λ (n : ℕ). targetsOf (set (set (set (set w (74 + 51 * n) 2) (75 + 51 * n) 0) (76 + 51 * n) (v .count)) 3 (n + 1)) a ≡ listOf (handedVar v) (v .count)) (sym at)
-    (ap (listOf (effectVar u a)) (action-row w a 2 (v .count) (targets-words t a v (v .count) words) low .2)
+    let at : actionCount w ≡ a = targets-other t a v (v .count) actionsCell (omega arith) in
+    subst (λ (n : ℕ). targetsOf (actionPut w n receiveKind (v .count)) a ≡ listOf (handedVar v) (v .count)) (sym at)
+    (ap (listOf (effectVar u a)) (action-row w a receiveKind (v .count) (targets-words t a v (v .count) words) low .2)
     ∙ list-same (handedVar v) (effectVar u a) (v .count)
-    (λ i l. action-other w a 2 (v .count) (93 + 51 * a + i) (omega arith) ∙ targets-var t a v (v .count) words low few i l))
+    (λ i l. action-other w a receiveKind (v .count) (varCell a i) (omega arith) ∙ targets-var t a v (v .count) words low few i l))
   where
     a : ℕ
     a = actionCount t
@@ -195,26 +196,26 @@ receive-list t v words low few =
     w = withTargets t a v (v .count)
 
     u : List ℕ
-    u = set (set (set (set w (74 + 51 * a) 2) (75 + 51 * a) 0) (76 + 51 * a) (v .count)) 3 (a + 1)
+    u = actionPut w a receiveKind (v .count)
 
 -- ---- transitions
 -- transition k of t is transition m of u
-pub transition-same : (t u : List ℕ) (k m : ℕ) → Formed t → Words u → k < transitionCount t → m < 128
-    → Moved t u (1706 + 3 * k) (1706 + 3 * m) 3 → GroupMoved t u k m → Moved t u (5930 + 64 * k) (5930 + 64 * m) 64 → transitionOf u m ≡ transitionOf t k
+pub transition-same : (t u : List ℕ) (k m : ℕ) → Formed t → Words u → k < transitionCount t → m < transitionRoom
+    → Moved t u (transitionRow k) (transitionRow m) transitionWidth → GroupMoved t u k m → Moved t u (guardSlot k) (guardSlot m) itemRoom → transitionOf u m ≡ transitionOf t k
 transition-same t u k m f words known room row group items =
     let old : TransitionSound t k = sound t true (together t f) .transition k known in
-    let key : keyOf u m ≡ keyOf t k = word-moved t u _ _ 3 0 _ _ row (omega arith) (omega arith) (omega arith) in
-    let long : guardLength u m ≡ guardLength t k = word-moved t u _ _ 3 1 _ _ row (omega arith) (omega arith) (omega arith) in
-    let count : limitCount u m ≡ limitCount t k = word-moved t u _ _ 3 2 _ _ row (omega arith) (omega arith) (omega arith) in
+    let key : keyOf u m ≡ keyOf t k = simp add-zero at (row 0 (omega arith)) in
+    let long : guardLength u m ≡ guardLength t k = row 1 (omega arith) in
+    let count : limitCount u m ≡ limitCount t k = row 2 (omega arith) in
     rw (
       key,
       long,
       count,
-      items-moved t u (5930 + 64 * k) (5930 + 64 * m) 64 (guardLength t k) (old .guard .short) (omega arith) (omega arith) items,
+      items-moved t u (guardSlot k) (guardSlot m) itemRoom (guardLength t k) (old .guard .short) (omega arith) (omega arith) items,
       group-list t u k m (limitCount t k) group (old .limits .few),
     )
 
-module _ (t : List ℕ) (key : ℕ) (ws : List ℕ) (l : Limits) (f : Formed t) (room : transitionCount t < 128) (short : length ws ≤ 64) (few : l .count ≤ 8) where
+module _ (t : List ℕ) (key : ℕ) (ws : List ℕ) (l : Limits) (f : Formed t) (room : transitionCount t < transitionRoom) (short : length ws ≤ itemRoom) (few : l .count ≤ limitRoom) where
   abbrev newTransition : StoredTransition
   newTransition = record { key = key; guard = ws; limits = sortedLimits l (l .count) }
 
@@ -239,7 +240,7 @@ module _ (t : List ℕ) (key : ℕ) (ws : List ℕ) (l : Limits) (f : Formed t) 
       words : Words u
       words = put-words t p n key ws l f refl least room few short
 
-      same : (j : ℕ) → (j ≡ 5 → ⊥) × (5930 + 64 * p ≤ j → 14122 ≤ j) × (2090 + 24 * p ≤ j → 5162 ≤ j) × (1706 + 3 * p ≤ j → 2090 ≤ j) → getD u j 0 ≡ getD t j 0
+      same : (j : ℕ) → (j ≡ transitionsCell → ⊥) × (guardSlot p ≤ j → effectsStart ≤ j) × (groupStart p ≤ j → groupStart transitionRoom ≤ j) × (transitionRow p ≤ j → limitsStart ≤ j) → getD u j 0 ≡ getD t j 0
       same = put-same t p n key ws l f refl least room few short
 
       before : (k : ℕ) → k < p → transitionOf u k ≡ transitionOf t k
@@ -251,7 +252,7 @@ module _ (t : List ℕ) (key : ℕ) (ws : List ℕ) (l : Limits) (f : Formed t) 
       limits : limitsOf u p (l .count) ≡ sortedLimits l (l .count)
       limits =
           group-list (withGroup rowed p n l) u p p (l .count) (λ j h. put-others t p n key ws l f refl least room few short _ (omega (arith, least))) few
-          ∙ limits-list (gapOf rowed (2090 + 24 * p) (2090 + 24 * n) 24) p l (opened-words rowed p n l (rowed-words t p n key ws l f refl least room few short) least room few) (omega (arith, least)) (l .count) few
+          ∙ limits-list (gapOf rowed (groupStart p) (groupStart n) groupWidth) p l (opened-words rowed p n l (rowed-words t p n key ws l f refl least room few short) least room few) (omega (arith, least)) (l .count) few
 
       here : transitionOf u p ≡ newTransition
       here =
@@ -270,13 +271,13 @@ module _ (t : List ℕ) (key : ℕ) (ws : List ℕ) (l : Limits) (f : Formed t) 
           (guards-moved t p n key ws l f refl least room few short k (k + 1) refl h m)
 
 -- ---- locations
-pub location-list : (t : List ℕ) (l : Limits) → Words t → locationCount t < 32 → l .count ≤ 8
-    → limitsOf (withLocation t l) (128 + locationCount t) (l .count) ≡ sortedLimits l (l .count)
+pub location-list : (t : List ℕ) (l : Limits) → Words t → locationCount t < locationRoom → l .count ≤ limitRoom
+    → limitsOf (withLocation t l) (invariantGroup (locationCount t)) (l .count) ≡ sortedLimits l (l .count)
 location-list t l words room few =
-    group-list (withLimits t (128 + locationCount t) l (l .count)) (withLocation t l) (128 + locationCount t) (128 + locationCount t) (l .count) (location-group t l words room few) few
-    ∙ limits-list t (128 + locationCount t) l words (omega arith) (l .count) few
+    group-list (withLimits t (invariantGroup (locationCount t)) l (l .count)) (withLocation t l) (invariantGroup (locationCount t)) (invariantGroup (locationCount t)) (l .count) (location-group t l words room few) few
+    ∙ limits-list t (invariantGroup (locationCount t)) l words (omega arith) (l .count) few
 
 -- they are all its invariants
-pub invariants-list : (t : List ℕ) (l : Limits) → Words t → locationCount t < 32 → l .count ≤ 8 → invariantsOf (withLocation t l) (locationCount t) ≡ sortedLimits l (l .count)
+pub invariants-list : (t : List ℕ) (l : Limits) → Words t → locationCount t < locationRoom → l .count ≤ limitRoom → invariantsOf (withLocation t l) (locationCount t) ≡ sortedLimits l (l .count)
 invariants-list t l words room few =
-    ap (limitsOf (withLocation t l) (128 + locationCount t)) (location-number t l words room few) ∙ location-list t l words room few
+    ap (limitsOf (withLocation t l) (invariantGroup (locationCount t))) (location-number t l words room few) ∙ location-list t l words room few

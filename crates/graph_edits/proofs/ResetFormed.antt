@@ -11,6 +11,8 @@ use lib.ListN.{length, getD, set, length-set}
 use lib.Seq.{getD-set-same, getD-set-other}
 use Rattle.laws.specs.Below.{allBelow}
 use Rattle.laws.proofs.BelowLaws.{and-first, and-rest, and-both, and-kept, all-at, all-from}
+use Rattle.graph_tables.specs.Layout.{clocksCell, actionsCell, actionWidth, actionRow, resetsCell, effectsCell, resetCell, varCell}
+use Rattle.graph_tables.specs.Sizes.{actionRoom, effectRoom, resetRoom, plainKind}
 use Rattle.graph_tables.specs.Words.{Words, clockCount, actionCount, actionKind, resetCount, effectCount, resetAt, effectLength}
 use Rattle.graph_tables.specs.Formed.{resetBefore, resetFormed, resetsFormed, effectFormed, plainFormed, actionFormed}
 use Rattle.graph_tables.proofs.FormedLaws.{short-effects}
@@ -22,7 +24,7 @@ use Rattle.graph_edits.proofs.PlaceLaws.{place-bound, place-above, plac
 use Rattle.graph_edits.proofs.LimitLaws.{sides, ordered}
 use Rattle.graph_edits.proofs.GrownFormed.{Around, around-grown, around-formed}
 
-module _ (t : List ℕ) (a clock : ℕ) (words : Words t) (low : a < 32) (room : resetCount t a < 16) where
+module _ (t : List ℕ) (a clock : ℕ) (words : Words t) (low : a < actionRoom) (room : resetCount t a < resetRoom) where
   abbrev n : ℕ
   n = resetCount t a
 
@@ -31,10 +33,10 @@ module _ (t : List ℕ) (a clock : ℕ) (words : Words t) (low : a < 32) (room :
   p = resetPlace t a clock
 
   abbrev lo : ℕ
-  lo = 77 + 51 * a + p
+  lo = resetCell a p
 
   abbrev hi : ℕ
-  hi = 77 + 51 * a + n
+  hi = resetCell a n
 
   abbrev gap : List ℕ
   gap = gapOf t lo hi 1
@@ -55,46 +57,46 @@ module _ (t : List ℕ) (a clock : ℕ) (words : Words t) (low : a < 32) (room :
   size : length gap ≡ length t
   size = gap-length t lo hi 1 some fits
 
-  other : (j : ℕ) → (j ≡ lo → ⊥) → (j ≡ 75 + 51 * a → ⊥) → getD u j 0 ≡ getD gap j 0
-  other j x y = getD-set-other (set gap lo clock) (75 + 51 * a) j (n + 1) 0 y ∙ getD-set-other gap lo j clock 0 x
+  other : (j : ℕ) → (j ≡ lo → ⊥) → (j ≡ resetsCell a → ⊥) → getD u j 0 ≡ getD gap j 0
+  other j x y = getD-set-other (set gap lo clock) (resetsCell a) j (n + 1) 0 y ∙ getD-set-other gap lo j clock 0 x
 
-  pub before : (j : ℕ) → j < lo → (j ≡ 75 + 51 * a → ⊥) → getD u j 0 ≡ getD t j 0
+  pub before : (j : ℕ) → j < lo → (j ≡ resetsCell a → ⊥) → getD u j 0 ≡ getD t j 0
   before j l x = other j (λ e. omega arith) x ∙ gap-before t lo hi 1 some fits j (omega arith)
 
-  pub after : (j : ℕ) → 93 + 51 * a ≤ j → getD u j 0 ≡ getD t j 0
+  pub after : (j : ℕ) → varCell a 0 ≤ j → getD u j 0 ≡ getD t j 0
   after j l = other j (λ e. omega (arith, least)) (λ e. omega arith) ∙ gap-after t lo hi 1 some fits j (omega arith)
 
   pub count : resetCount u a ≡ n + 1
-  count = getD-set-same (set gap lo clock) (75 + 51 * a) (n + 1) 0 (simp length-set (omega (arith, size)))
+  count = getD-set-same (set gap lo clock) (resetsCell a) (n + 1) 0 (simp length-set (omega (arith, size)))
 
   pub here : resetAt u a p ≡ clock
-  here = getD-set-other (set gap lo clock) (75 + 51 * a) lo (n + 1) 0 (λ e. omega arith) ∙ getD-set-same gap lo clock 0 (omega (arith, size, least))
+  here = getD-set-other (set gap lo clock) (resetsCell a) lo (n + 1) 0 (λ e. omega arith) ∙ getD-set-same gap lo clock 0 (omega (arith, size, least))
 
   pub above : (i : ℕ) → p ≤ i → i < n → resetAt u a (i + 1) ≡ resetAt t a i
   above i l m =
-      let e : 77 + 51 * a + (i + 1) ≡ 77 + 51 * a + i + 1 = omega arith in
-      rw e (other (77 + 51 * a + i + 1) (λ f. omega arith) (λ f. omega arith) ∙ gap-moved t lo hi 1 some fits (77 + 51 * a + i) (omega arith) (omega arith))
+      let e : resetCell a (i + 1) ≡ resetCell a i + 1 = omega arith in
+      rw e (other (resetCell a i + 1) (λ f. omega arith) (λ f. omega arith) ∙ gap-moved t lo hi 1 some fits (resetCell a i) (omega arith) (omega arith))
 
   -- ---- its parts
   -- a word before the action's resets
-  first : (j : ℕ) → j < 75 + 51 * a → getD u j 0 ≡ getD t j 0
+  first : (j : ℕ) → j < resetsCell a → getD u j 0 ≡ getD t j 0
   first j l = before j (omega arith) (λ e. omega arith)
 
   -- a word that action a has not
-  elsewhere : (j : ℕ) → ((i : ℕ) → i < 51 → j ≢ 74 + 51 * a + i) → getD u j 0 ≡ getD t j 0
+  elsewhere : (j : ℕ) → ((i : ℕ) → i < actionWidth → j ≢ actionRow a + i) → getD u j 0 ≡ getD t j 0
   elsewhere j out =
-      sides j (75 + 51 * a)
+      sides j (resetsCell a)
       (first j)
       (λ e. absurd (out 1 (omega arith) (omega arith)))
       (λ m.
-      sides j (93 + 51 * a)
-      (λ k. absurd (out (j - (74 + 51 * a)) (omega arith) (omega arith)))
+      sides j (varCell a 0)
+      (λ k. absurd (out (j - (actionRow a)) (omega arith) (omega arith)))
       (λ e. after j (omega arith))
       (λ k. after j (omega arith)))
 
-  pub around : actionCount t ≤ 32 → Around t u a
+  pub around : actionCount t ≤ actionRoom → Around t u a
   around few =
-      let same : actionCount u ≡ actionCount t = first 3 (omega arith) in
+      let same : actionCount u ≡ actionCount t = first actionsCell (omega arith) in
       record {
         words = simp length-set (size ∙ words);
         more = omega arith;
@@ -104,7 +106,7 @@ module _ (t : List ℕ) (a clock : ℕ) (words : Words t) (low : a < 32) (room :
         items = λ b e l other j k. after _ (omega arith);
       }
 
-  module _ (formed : Formed t) (known : a < actionCount t) (plain : actionKind t a ≡ 0) (timed : clock < clockCount t) where
+  module _ (formed : Formed t) (known : a < actionCount t) (plain : actionKind t a ≡ plainKind) (timed : clock < clockCount t) where
     grown : Grown t u
     grown = around-grown t u a (omega arith) formed (around (formed .counts .actions))
 
@@ -118,7 +120,7 @@ module _ (t : List ℕ) (a clock : ℕ) (words : Words t) (low : a < 32) (room :
 
     resets : resetsFormed u a ≡ true
     unfolding resetsFormed resetFormed
-    resets = rw count (and-both (le-leb (n + 1) 16 (omega arith)) (all-from (resetFormed u a) (n + 1) each))
+    resets = rw count (and-both (le-leb (n + 1) resetRoom (omega arith)) (all-from (resetFormed u a) (n + 1) each))
       where
         old : (i : ℕ) → i < n → resetFormed t a i ≡ true
         old i = all-at (resetFormed t a) n i (and-rest _ _ were-resets)
@@ -129,7 +131,7 @@ module _ (t : List ℕ) (a clock : ℕ) (words : Words t) (low : a < 32) (room :
         in-time : (i : ℕ) → i < n + 1 → resetAt u a i < clockCount t
         in-time i l =
             sides i p
-            (λ m. rw (before (77 + 51 * a + i) (omega arith) (λ e. omega arith)) (ltb-true _ _ (and-first _ _ (old i (omega (arith, least))))))
+            (λ m. rw (before (resetCell a i) (omega arith) (λ e. omega arith)) (ltb-true _ _ (and-first _ _ (old i (omega (arith, least))))))
             (λ e. rw (e, here) timed)
             (λ m.
             let e : i ≡ i - 1 + 1 = omega arith in
@@ -142,26 +144,26 @@ module _ (t : List ℕ) (a clock : ℕ) (words : Words t) (low : a < 32) (room :
             (ordered (resetAt t a) (resetAt u a) n clock p least (place-above (resetAt t a) n clock) (place-below (resetAt t a) n clock) (λ j m. before _ (omega arith) (λ e. omega arith)) here above old-order i (omega arith))
 
         each : (i : ℕ) → i < n + 1 → resetFormed u a i ≡ true
-        each i l = rw (first 1 (omega arith)) (and-both (lt-ltb _ _ (in-time i l)) (le-leb _ _ (order i l)))
+        each i l = rw (first clocksCell (omega arith)) (and-both (lt-ltb _ _ (in-time i l)) (le-leb _ _ (order i l)))
 
     still-plain : plainFormed u a ≡ true
     unfolding plainFormed
     still-plain =
         let m = effectCount t a in
-        let few : m ≤ 16 = leb-true _ _ (and-first _ _ (and-rest _ _ was-plain)) in
+        let few : m ≤ effectRoom = leb-true _ _ (and-first _ _ (and-rest _ _ was-plain)) in
         let all : allBelow m (effectFormed t a) ≡ true = and-first _ _ (and-rest _ _ (and-rest _ _ was-plain)) in
         let same : (e : ℕ) → e < m → effectLength u a e ≡ effectLength t a e = λ e l. after _ (omega arith) in
         let items : (e : ℕ) → e < m → ItemsKept t u a e = λ e l j k. after _ (omega arith) in
-        rw (before (76 + 51 * a) (omega arith) (λ e. omega arith), draws-kept grown a (omega arith) m few same items (short-effects t a m all))
+        rw (before (effectsCell a) (omega arith) (λ e. omega arith), draws-kept grown a (omega arith) m few same items (short-effects t a m all))
         (and-kept (λ r. resets) (and-kept (λ r. r) (and-kept (effects-kept grown a (omega arith) m few same items (λ e l. after _ (omega arith))) (λ r. r))) was-plain)
 
     still-formed : actionFormed u a ≡ true
     unfolding actionFormed
-    still-formed = rw (first (74 + 51 * a) (omega arith), plain) still-plain
+    still-formed = rw (first (actionRow a) (omega arith), plain) still-plain
 
     whole : Formed u
     whole = around-formed t u a low formed (around (formed .counts .actions)) still-formed
 
-pub reset-formed : (t : List ℕ) (a clock : ℕ) → Formed t → a < actionCount t → actionKind t a ≡ 0 → resetCount t a < 16 → clock < clockCount t
+pub reset-formed : (t : List ℕ) (a clock : ℕ) → Formed t → a < actionCount t → actionKind t a ≡ plainKind → resetCount t a < resetRoom → clock < clockCount t
     → Formed (withReset t a clock)
 reset-formed t a clock formed known plain room timed = whole t a clock (formed .words) (omega arith) room formed known plain timed

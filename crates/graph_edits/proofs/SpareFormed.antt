@@ -9,7 +9,9 @@ use borrow.Author.Tests.{eqb-true, eqb-false}
 use lib.Dec.{eqb}
 use lib.ListN.{getD, set, length-set}
 use lib.Seq.{getD-set-same, getD-set-other}
-use Rattle.graph_tables.specs.Words.{Words, variableCount, clockCount, locationCount, actionCount, processCount, transitionCount}
+use Rattle.graph_tables.specs.Layout.{variablesCell, clocksCell, locationsCell, actionsCell, processesCell, transitionsCell, kindsStart, actionWidth, transitionWidth, groupWidth, kindCell, valueCell, placeCell, invariantsCell, actionRow, transitionRow, groupStart, guardSlot, effectSlot}
+use Rattle.graph_tables.specs.Sizes.{processRoom, locationRoom, actionRoom, variableRoom, clockRoom, effectRoom, itemRoom}
+use Rattle.graph_tables.specs.Words.{Words, variableCount, clockCount, locationCount, actionCount, processCount, transitionCount, invariantGroup}
 use Rattle.graph_tables.specs.Formed.{variableFormed, locationFormed, processFormed, actionFormed}
 use Rattle.graph_tables.specs.Sound.{Counted}
 use Rattle.graph_tables.proofs.KeptLaws.{Formed, Grown, variable-kept, location-kept, action-kept}
@@ -17,39 +19,39 @@ use Rattle.graph_edits.proofs.GrownFormed.{LocationStands, Stands, both
 
 -- ---- word i is used by no part of t
 pub record Spare (t : List ℕ) (i : ℕ) : Type 0 where
-  pub counts : 6 ≤ i
-  pub kinds : (v : ℕ) → v < variableCount t → 6 + v ≡ i → ⊥
-  pub values : (v : ℕ) → v < variableCount t → 22 + v ≡ i → ⊥
-  pub places : (p : ℕ) → p < processCount t → 38 + p ≡ i → ⊥
-  pub invariants : (l : ℕ) → l < locationCount t → 42 + l ≡ i → ⊥
-  pub actions : (a j : ℕ) → a < actionCount t → j < 51 → 74 + 51 * a + j ≡ i → ⊥
-  pub transitions : (k j : ℕ) → k < transitionCount t → j < 3 → 1706 + 3 * k + j ≡ i → ⊥
-  pub limits : (k j : ℕ) → k < transitionCount t → j < 24 → 2090 + 24 * k + j ≡ i → ⊥
-  pub groups : (l j : ℕ) → l < locationCount t → j < 24 → 2090 + 24 * (128 + l) + j ≡ i → ⊥
-  pub guards : (k j : ℕ) → k < transitionCount t → j < 64 → 5930 + 64 * k + j ≡ i → ⊥
-  pub items : (a e j : ℕ) → a < actionCount t → e < 16 → j < 64 → 14122 + 64 * (32 * e + a) + j ≡ i → ⊥
+  pub counts : kindsStart ≤ i
+  pub kinds : (v : ℕ) → v < variableCount t → kindCell v ≡ i → ⊥
+  pub values : (v : ℕ) → v < variableCount t → valueCell v ≡ i → ⊥
+  pub places : (p : ℕ) → p < processCount t → placeCell p ≡ i → ⊥
+  pub invariants : (l : ℕ) → l < locationCount t → invariantsCell l ≡ i → ⊥
+  pub actions : (a j : ℕ) → a < actionCount t → j < actionWidth → actionRow a + j ≡ i → ⊥
+  pub transitions : (k j : ℕ) → k < transitionCount t → j < transitionWidth → transitionRow k + j ≡ i → ⊥
+  pub limits : (k j : ℕ) → k < transitionCount t → j < groupWidth → groupStart k + j ≡ i → ⊥
+  pub groups : (l j : ℕ) → l < locationCount t → j < groupWidth → groupStart (invariantGroup l) + j ≡ i → ⊥
+  pub guards : (k j : ℕ) → k < transitionCount t → j < itemRoom → guardSlot k + j ≡ i → ⊥
+  pub items : (a e j : ℕ) → a < actionCount t → e < effectRoom → j < itemRoom → effectSlot a e + j ≡ i → ⊥
 
 -- the words of a part more
 module _ (t : List ℕ) (counts : Counted t) where
-  pub spare-kind : variableCount t < 16 → Spare t (6 + variableCount t)
+  pub spare-kind : variableCount t < variableRoom → Spare t (kindCell (variableCount t))
   spare-kind room = omega arith
 
-  pub spare-value : variableCount t < 16 → Spare t (22 + variableCount t)
+  pub spare-value : variableCount t < variableRoom → Spare t (valueCell (variableCount t))
   spare-value room = omega arith
 
-  pub spare-place : processCount t < 4 → Spare t (38 + processCount t)
+  pub spare-place : processCount t < processRoom → Spare t (placeCell (processCount t))
   spare-place room = omega arith
 
-  pub spare-action : actionCount t < 32 → (i : ℕ) → i < 51 → Spare t (74 + 51 * actionCount t + i)
+  pub spare-action : actionCount t < actionRoom → (i : ℕ) → i < actionWidth → Spare t (actionRow (actionCount t) + i)
   spare-action room i l = omega arith
 
-  pub spare-item : actionCount t < 32 → (e j : ℕ) → e < 16 → j < 64 → Spare t (14122 + 64 * (32 * e + actionCount t) + j)
+  pub spare-item : actionCount t < actionRoom → (e j : ℕ) → e < effectRoom → j < itemRoom → Spare t (effectSlot (actionCount t) e + j)
   spare-item room e j l m = omega arith
 
-  pub spare-invariants : locationCount t < 32 → Spare t (42 + locationCount t)
+  pub spare-invariants : locationCount t < locationRoom → Spare t (invariantsCell (locationCount t))
   spare-invariants room = omega arith
 
-  pub spare-group : locationCount t < 32 → (j : ℕ) → j < 24 → Spare t (2090 + 24 * (128 + locationCount t) + j)
+  pub spare-group : locationCount t < locationRoom → (j : ℕ) → j < groupWidth → Spare t (groupStart (invariantGroup (locationCount t)) + j)
   spare-group room j l = omega arith
 
 -- ---- u has the words of t that are not spare
@@ -61,7 +63,7 @@ pub set-agrees : (t u : List ℕ) (i x : ℕ) → Spare t i → Agrees t u → A
 set-agrees t u i x spare agrees j used = getD-set-other u i j x 0 (λ e. used (subst (Spare t) (sym e) spare)) ∙ agrees j used
 
 module _ (t u : List ℕ) (formed : Formed t) (words : Words u) (agrees : Agrees t u) where
-  count-agrees : (i : ℕ) → i < 6 → getD u i 0 ≡ getD t i 0
+  count-agrees : (i : ℕ) → i < kindsStart → getD u i 0 ≡ getD t i 0
   count-agrees i l = agrees i (λ s. omega arith)
 
   pub locations-agree : (l : ℕ) → l < locationCount t → LocationStands t u l
@@ -69,12 +71,12 @@ module _ (t u : List ℕ) (formed : Formed t) (words : Words u) (agrees : Agrees
 
   pub agrees-formed : Formed u
   agrees-formed =
-      let v : variableCount u ≡ variableCount t = count-agrees 0 (omega arith) in
-      let c : clockCount u ≡ clockCount t = count-agrees 1 (omega arith) in
-      let l : locationCount u ≡ locationCount t = count-agrees 2 (omega arith) in
-      let a : actionCount u ≡ actionCount t = count-agrees 3 (omega arith) in
-      let p : processCount u ≡ processCount t = count-agrees 4 (omega arith) in
-      let k : transitionCount u ≡ transitionCount t = count-agrees 5 (omega arith) in
+      let v : variableCount u ≡ variableCount t = count-agrees variablesCell (omega arith) in
+      let c : clockCount u ≡ clockCount t = count-agrees clocksCell (omega arith) in
+      let l : locationCount u ≡ locationCount t = count-agrees locationsCell (omega arith) in
+      let a : actionCount u ≡ actionCount t = count-agrees actionsCell (omega arith) in
+      let p : processCount u ≡ processCount t = count-agrees processesCell (omega arith) in
+      let k : transitionCount u ≡ transitionCount t = count-agrees transitionsCell (omega arith) in
       let grown : Grown t u = record {
         words = formed .words;
         grown-words = words;
@@ -105,17 +107,17 @@ module _ (t u : List ℕ) (formed : Formed t) (words : Words u) (agrees : Agrees
 
 -- ---- count c of t is n, and may be one more if part n is well formed
 pub record Room (c n : ℕ) : Type 0 where
-  pub variables : c ≡ 0 → n < 16
-  pub clocks : c ≡ 1 → n < 8
-  pub locations : c ≡ 2 → n < 32
-  pub actions : c ≡ 3 → n < 32
-  pub processes : c ≡ 4 → n < 4
+  pub variables : c ≡ variablesCell → n < variableRoom
+  pub clocks : c ≡ clocksCell → n < clockRoom
+  pub locations : c ≡ locationsCell → n < locationRoom
+  pub actions : c ≡ actionsCell → n < actionRoom
+  pub processes : c ≡ processesCell → n < processRoom
 
-module _ (t : List ℕ) (c n : ℕ) (formed : Formed t) (known : c < 5) (is : getD t c 0 ≡ n) where
+module _ (t : List ℕ) (c n : ℕ) (formed : Formed t) (known : c < transitionsCell) (is : getD t c 0 ≡ n) where
   abbrev u : List ℕ
   u = set t c (n + 1)
 
-  same : (j : ℕ) → 5 ≤ j → getD u j 0 ≡ getD t j 0
+  same : (j : ℕ) → transitionsCell ≤ j → getD u j 0 ≡ getD t j 0
   same j l = getD-set-other t c j (n + 1) 0 (λ e. omega arith)
 
   -- count i is this one, or stays
@@ -144,15 +146,15 @@ module _ (t : List ℕ) (c n : ℕ) (formed : Formed t) (known : c < 5) (is : ge
       by (inl w) = let e : v ≡ n = omega arith in rw e (h (w .0))
       by (inr e) = absurd (omega arith)
 
-  pub raised-formed : Room c n → (c ≡ 0 → variableFormed t n ≡ true) → (c ≡ 2 → locationFormed t n ≡ true) → (c ≡ 3 → actionFormed t n ≡ true)
-      → (c ≡ 4 → processFormed t n ≡ true) → Formed u
+  pub raised-formed : Room c n → (c ≡ variablesCell → variableFormed t n ≡ true) → (c ≡ locationsCell → locationFormed t n ≡ true) → (c ≡ actionsCell → actionFormed t n ≡ true)
+      → (c ≡ processesCell → processFormed t n ≡ true) → Formed u
   raised-formed room variable location action process =
-      let v : (variableCount t ≤ variableCount u) × (variableCount u ≤ 16) = count-raised 0 16 (formed .counts .variables) (room .variables) in
-      let k : (clockCount t ≤ clockCount u) × (clockCount u ≤ 8) = count-raised 1 8 (formed .counts .clocks) (room .clocks) in
-      let l : (locationCount t ≤ locationCount u) × (locationCount u ≤ 32) = count-raised 2 32 (formed .counts .locations) (room .locations) in
-      let a : (actionCount t ≤ actionCount u) × (actionCount u ≤ 32) = count-raised 3 32 (formed .counts .actions) (room .actions) in
-      let p : (processCount t ≤ processCount u) × (processCount u ≤ 4) = count-raised 4 4 (formed .counts .processes) (room .processes) in
-      let x : transitionCount u ≡ transitionCount t = same 5 (omega arith) in
+      let v : (variableCount t ≤ variableCount u) × (variableCount u ≤ variableRoom) = count-raised variablesCell variableRoom (formed .counts .variables) (room .variables) in
+      let k : (clockCount t ≤ clockCount u) × (clockCount u ≤ clockRoom) = count-raised clocksCell clockRoom (formed .counts .clocks) (room .clocks) in
+      let l : (locationCount t ≤ locationCount u) × (locationCount u ≤ locationRoom) = count-raised locationsCell locationRoom (formed .counts .locations) (room .locations) in
+      let a : (actionCount t ≤ actionCount u) × (actionCount u ≤ actionRoom) = count-raised actionsCell actionRoom (formed .counts .actions) (room .actions) in
+      let p : (processCount t ≤ processCount u) × (processCount u ≤ processRoom) = count-raised processesCell processRoom (formed .counts .processes) (room .processes) in
+      let x : transitionCount u ≡ transitionCount t = same transitionsCell (omega arith) in
       let grown : Grown t u = record {
         words = formed .words;
         grown-words = length-set t c (n + 1) ∙ formed .words;
@@ -165,11 +167,11 @@ module _ (t : List ℕ) (c n : ℕ) (formed : Formed t) (known : c < 5) (is : ge
       } in
       let place : (i : ℕ) → LocationStands t u i = λ i. record { count = same _ (omega arith); group = λ j m. same _ (omega arith) } in
       grown-formed t u formed grown (omega arith) (record { values = λ i m. same _ (omega arith); locations = λ i m. place i; places = λ i m. same _ (omega arith) })
-      (λ i m h. variable-kept t u i (same _ (omega arith)) (same _ (omega arith)) (new-part 0 (variableFormed t) variable i m h))
-      (λ i m h. location-kept grown i (place i .count) (place i .group) (new-part 2 (locationFormed t) location i m h))
-      (λ i m h. process-stands t u formed grown i (same _ (omega arith)) (λ j o. place j) (new-part 4 (processFormed t) process i m h))
+      (λ i m h. variable-kept t u i (same _ (omega arith)) (same _ (omega arith)) (new-part variablesCell (variableFormed t) variable i m h))
+      (λ i m h. location-kept grown i (place i .count) (place i .group) (new-part locationsCell (locationFormed t) location i m h))
+      (λ i m h. process-stands t u formed grown i (same _ (omega arith)) (λ j o. place j) (new-part processesCell (processFormed t) process i m h))
       (λ i m. action-kept grown i (omega arith) (λ j o. same _ (omega arith)) (λ e o j q. same _ (omega arith))
-      (both-sides (actionFormed t) (actionCount t) (actionCount u) (formed .action) (new-part 3 (actionFormed t) action) i m))
+      (both-sides (actionFormed t) (actionCount t) (actionCount u) (formed .action) (new-part actionsCell (actionFormed t) action) i m))
       (λ i m.
       transitions-stand t u formed grown
       (λ j o. record { row = λ q r. same _ (omega arith); group = λ q r. same _ (omega arith); guard = λ q r. same _ (omega arith) })

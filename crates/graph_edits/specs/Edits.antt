@@ -1,45 +1,41 @@
 -- A part more in a table, where there is room for it: all words afterwards.
 use Prim.Native.Nat.{ℕ, zero, suc, _+_, _*_, _<_}
-use mathlib.Core.Bool.{Bool, cond}
+use mathlib.Core.Path.{_≡_}
+use mathlib.Core.Bool.{true, cond}
 use mathlib.Core.List.{List}
-use lib.Dec.{eqb, ltb}
+use lib.Dec.{eqb}
 use lib.ListN.{length, set}
-use Rattle.laws.specs.Below.{allBelow}
 use Rattle.time.specs.Time.{inRange}
 use Rattle.time.specs.declared.Bound.{Bound}
 use Rattle.time.specs.declared.Bound.the-variants.{Included, Excluded, Unbounded}
 use Rattle.time.specs.declared.TimeRange.{TimeRange}
+use Rattle.graph_tables.specs.Layout.{variablesCell, clocksCell, locationsCell, actionsCell, processesCell, transitionsCell, transitionWidth, limitWidth, groupWidth, kindCell, valueCell, placeCell, invariantsCell, actionRow, resetsCell, effectsCell, resetCell, varCell, lengthCell, transitionRow, guardCell, limitsCell, groupStart, limitRow, guardSlot, effectSlot, lowerCell, upperCell}
+use Rattle.graph_tables.specs.Sizes.{itemRoom, word32, sendKind, receiveKind}
 use Rattle.graph_tables.specs.declared.handed.Limits.{Limits}
 use Rattle.graph_tables.specs.declared.handed.Vars.{Vars}
 use Rattle.graph_tables.specs.Handed.{handedClock, handedRange, handedVar}
-use Rattle.graph_tables.specs.Words.{variableCount, clockCount, locationCount, actionCount, processCount, transitionCount, resetCount, effectCount, resetAt, clockOf, keyOf}
+use Rattle.graph_tables.specs.Words.{variableCount, clockCount, locationCount, actionCount, processCount, transitionCount, resetCount, effectCount, resetAt, clockOf, keyOf, invariantGroup, boundWord}
 use Rattle.graph_edits.specs.Rows.{placeOf, gapOf, pastedAt}
 
 -- ---- variables: a kind and a value
 abbrev pub withVar : List ℕ → ℕ → ℕ → List ℕ
-withVar t kind value = set (set (set t (6 + variableCount t) kind) (22 + variableCount t) value) 0 (variableCount t + 1)
+withVar t kind value = set (set (set t (kindCell (variableCount t)) kind) (valueCell (variableCount t)) value) variablesCell (variableCount t + 1)
 
 -- ---- clocks
 abbrev pub withClock : List ℕ → List ℕ
-withClock t = set t 1 (clockCount t + 1)
+withClock t = set t clocksCell (clockCount t + 1)
 
 -- ---- limits
--- a bound's word: 0 for none, else its time above two bits, 1 included and 2 excluded
-abbrev pub boundWord : Bound → ℕ
-boundWord (Included n) = n * 4 + 1
-boundWord (Excluded n) = n * 4 + 2
-boundWord Unbounded = 0
-
 -- a limit more in group g, which has n: before the first whose clock is greater
 abbrev pub limitPlace : List ℕ → ℕ → ℕ → ℕ → ℕ
 limitPlace t g n clock = placeOf (clockOf t g) n clock
 
-abbrev pub limitPut : List ℕ → ℕ → ℕ → TimeRange → List ℕ
-limitPut t at clock range = set (set (set t at clock) (at + 1) (boundWord (range .lower))) (at + 2) (boundWord (range .upper))
+abbrev pub limitPut : List ℕ → ℕ → ℕ → ℕ → TimeRange → List ℕ
+limitPut t g i clock range = set (set (set t (limitRow g i) clock) (lowerCell g i) (boundWord (range .lower))) (upperCell g i) (boundWord (range .upper))
 
 unfoldable pub withLimit : List ℕ → ℕ → ℕ → ℕ → TimeRange → List ℕ
 withLimit t g n clock range =
-    limitPut (gapOf t (2090 + 24 * g + 3 * limitPlace t g n clock) (2090 + 24 * g + 3 * n) 3) (2090 + 24 * g + 3 * limitPlace t g n clock) clock range
+    limitPut (gapOf t (limitRow g (limitPlace t g n clock)) (limitRow g n) limitWidth) g (limitPlace t g n clock) clock range
 
 -- the first n of these limits, one after the other, in group g
 unfoldable pub withLimits : List ℕ → ℕ → Limits → ℕ → List ℕ
@@ -49,16 +45,18 @@ withLimits t g l (suc n) = withLimit (withLimits t g l n) g n (handedClock l n) 
 -- ---- locations, with their invariants
 abbrev pub withLocation : List ℕ → Limits → List ℕ
 withLocation t l =
-    set (set (withLimits t (128 + locationCount t) l (l .count)) (42 + locationCount t) (l .count)) 2 (locationCount t + 1)
+    set (set (withLimits t (invariantGroup (locationCount t)) l (l .count)) (invariantsCell (locationCount t)) (l .count)) locationsCell (locationCount t + 1)
 
 -- ---- processes
 abbrev pub withProcess : List ℕ → ℕ → List ℕ
-withProcess t l = set (set t (38 + processCount t) l) 4 (processCount t + 1)
+withProcess t l = set (set t (placeCell (processCount t)) l) processesCell (processCount t + 1)
 
 -- ---- actions: a kind, no resets, so many effects
+abbrev pub actionPut : List ℕ → ℕ → ℕ → ℕ → List ℕ
+actionPut t a kind count = set (set (set (set t (actionRow a) kind) (resetsCell a) 0) (effectsCell a) count) actionsCell (a + 1)
+
 abbrev pub withAction : List ℕ → ℕ → ℕ → List ℕ
-withAction t kind count =
-    set (set (set (set t (74 + 51 * actionCount t) kind) (75 + 51 * actionCount t) 0) (76 + 51 * actionCount t) count) 3 (actionCount t + 1)
+withAction t kind count = actionPut t (actionCount t) kind count
 
 -- a clock among the resets of action a, before the first whose number is greater
 abbrev pub resetPlace : List ℕ → ℕ → ℕ → ℕ
@@ -66,15 +64,15 @@ resetPlace t a clock = placeOf (resetAt t a) (resetCount t a) clock
 
 abbrev pub withReset : List ℕ → ℕ → ℕ → List ℕ
 withReset t a clock =
-    set (set (gapOf t (77 + 51 * a + resetPlace t a clock) (77 + 51 * a + resetCount t a) 1) (77 + 51 * a + resetPlace t a clock) clock) (75 + 51 * a) (resetCount t a + 1)
+    set (set (gapOf t (resetCell a (resetPlace t a clock)) (resetCell a (resetCount t a)) 1) (resetCell a (resetPlace t a clock)) clock) (resetsCell a) (resetCount t a + 1)
 
 -- expression e of action a: how many items it has, and the items
 unfoldable pub withExpression : List ℕ → ℕ → ℕ → List ℕ → List ℕ
-withExpression t a e ws = pastedAt (set t (109 + 51 * a + e) (length ws)) (14122 + 64 * (32 * e + a)) ws
+withExpression t a e ws = pastedAt (set t (lengthCell a e) (length ws)) (effectSlot a e) ws
 
 -- an effect more, behind the others
 abbrev pub withEffect : List ℕ → ℕ → ℕ → List ℕ → List ℕ
-withEffect t a v ws = set (set (withExpression t a (effectCount t a) ws) (93 + 51 * a + effectCount t a) v) (76 + 51 * a) (effectCount t a + 1)
+withEffect t a v ws = set (set (withExpression t a (effectCount t a) ws) (varCell a (effectCount t a)) v) (effectsCell a) (effectCount t a + 1)
 
 -- one of four, by its number
 abbrev pub chosen : List ℕ → List ℕ → List ℕ → List ℕ → ℕ → List ℕ
@@ -85,24 +83,20 @@ unfoldable pub withExpressions : List ℕ → ℕ → (ℕ → List ℕ) → ℕ
 withExpressions t a m zero = t
 withExpressions t a m (suc n) = withExpression (withExpressions t a m n) a n (m n)
 
--- a send (1) of count expressions
+-- a send of count expressions
 abbrev pub withSend : List ℕ → (ℕ → List ℕ) → ℕ → List ℕ
-withSend t m count = withAction (withExpressions t (actionCount t) m count) 1 count
+withSend t m count = withAction (withExpressions t (actionCount t) m count) sendKind count
 
 -- the first n variables that take a message's values
 unfoldable pub withTargets : List ℕ → ℕ → Vars → ℕ → List ℕ
 withTargets t a v zero = t
-withTargets t a v (suc n) = set (withTargets t a v n) (93 + 51 * a + n) (handedVar v n)
+withTargets t a v (suc n) = set (withTargets t a v n) (varCell a n) (handedVar v n)
 
--- a receive (2)
+-- a receive
 abbrev pub withReceive : List ℕ → Vars → List ℕ
-withReceive t v = withAction (withTargets t (actionCount t) v (v .count)) 2 (v .count)
+withReceive t v = withAction (withTargets t (actionCount t) v (v .count)) receiveKind (v .count)
 
 -- ---- transitions
--- (pre * 2 ^ 32 + action) * 32 + post
-abbrev pub keyWith : ℕ → ℕ → ℕ → ℕ
-keyWith pre action post = (pre * 4294967296 + action) * 32 + post
-
 -- before the first whose key is greater
 abbrev pub transitionPlace : List ℕ → ℕ → ℕ
 transitionPlace t key = placeOf (keyOf t) (transitionCount t) key
@@ -110,41 +104,35 @@ transitionPlace t key = placeOf (keyOf t) (transitionCount t) key
 -- row p of n rows: a key, how many items the guard has, how many limits
 unfoldable pub withRow : List ℕ → ℕ → ℕ → ℕ → ℕ → ℕ → List ℕ
 withRow t p n key items limits =
-    set (set (set (gapOf t (1706 + 3 * p) (1706 + 3 * n) 3) (1706 + 3 * p) key) (1707 + 3 * p) items) (1708 + 3 * p) limits
+    set (set (set (gapOf t (transitionRow p) (transitionRow n) transitionWidth) (transitionRow p) key) (guardCell p) items) (limitsCell p) limits
 
 -- limit group p of n groups
 unfoldable pub withGroup : List ℕ → ℕ → ℕ → Limits → List ℕ
-withGroup t p n l = withLimits (gapOf t (2090 + 24 * p) (2090 + 24 * n) 24) p l (l .count)
+withGroup t p n l = withLimits (gapOf t (groupStart p) (groupStart n) groupWidth) p l (l .count)
 
 -- guard p of n guards; none has no items
 unfoldable pub withGuard : List ℕ → ℕ → ℕ → List ℕ → List ℕ
-withGuard t p n ws = pastedAt (gapOf t (5930 + 64 * p) (5930 + 64 * n) 64) (5930 + 64 * p) ws
+withGuard t p n ws = pastedAt (gapOf t (guardSlot p) (guardSlot n) itemRoom) (guardSlot p) ws
 
 unfoldable pub transitionAt : List ℕ → ℕ → ℕ → ℕ → List ℕ → Limits → List ℕ
-transitionAt t p n key ws l = set (withGuard (withGroup (withRow t p n key (length ws) (l .count)) p n l) p n ws) 5 (n + 1)
+transitionAt t p n key ws l = set (withGuard (withGroup (withRow t p n key (length ws) (l .count)) p n l) p n ws) transitionsCell (n + 1)
 
 abbrev pub withTransition : List ℕ → ℕ → List ℕ → Limits → List ℕ
 withTransition t key ws l = transitionAt t (transitionPlace t key) (transitionCount t) key ws l
 
--- ---- what is asked of handed limits
--- clock i of them is known
-unfoldable pub clockKnown : List ℕ → Limits → ℕ → Bool
-clockKnown t l i = ltb (handedClock l i) (clockCount t)
+-- ---- what a check has found of handed limits
+-- each is of a known clock
+abbrev pub ClocksKnown : List ℕ → Limits → Type 0
+ClocksKnown t l = (i : ℕ) → i < l .count → handedClock l i < clockCount t
 
-unfoldable pub clocksKnown : List ℕ → Limits → Bool
-clocksKnown t l = allBelow (l .count) (clockKnown t l)
-
--- limit i of them contains time 0
-unfoldable pub startsInside : Limits → ℕ → Bool
-startsInside l i = inRange (handedRange l i) 0
-
-unfoldable pub allStartInside : Limits → Bool
-allStartInside l = allBelow (l .count) (startsInside l)
+-- each contains time 0
+abbrev pub StartInside : Limits → Type 0
+StartInside l = (i : ℕ) → i < l .count → inRange (handedRange l i) 0 ≡ true
 
 -- the times of their bounds have 32 bits, as every handed time has
 abbrev pub BoundFits : Bound → Type 0
-BoundFits (Included n) = n < 4294967296
-BoundFits (Excluded n) = n < 4294967296
+BoundFits (Included n) = n < word32
+BoundFits (Excluded n) = n < word32
 BoundFits Unbounded = Unit {0}
 
 abbrev pub LimitsFit : Limits → Type 0

@@ -6,9 +6,10 @@ use mathlib.Core.Bool.{cond}
 use mathlib.Core.List.{List, [], _∷_}
 use lib.Dec.{ltb}
 use Rattle.time.specs.declared.TimeRange.{TimeRange}
+use Rattle.graph_tables.specs.Sizes.{plainKind, sendKind, receiveKind}
 use Rattle.graph_tables.specs.declared.handed.Limits.{Limits}
 use Rattle.graph_tables.specs.Handed.{handedClock, handedRange}
-use Rattle.graph_tables.specs.Words.{variableCount, clockCount, locationCount, actionCount, processCount, transitionCount, kindAt, valueAt, placeAt, invariantCount, actionKind, resetCount, effectCount, resetAt, effectVar, keyOf, limitCount, clockOf, limitRange, guardItems, effectItems}
+use Rattle.graph_tables.specs.Words.{variableCount, clockCount, locationCount, actionCount, processCount, transitionCount, kindAt, valueAt, placeAt, invariantCount, actionKind, resetCount, effectCount, resetAt, effectVar, keyOf, limitCount, clockOf, limitRange, guardItems, effectItems, invariantGroup}
 
 -- f of every number below n, in order
 unfoldable pub listOf : {A : Type 0} → (ℕ → A) → ℕ → List A
@@ -36,7 +37,7 @@ limitsOf t g n = listOf (limitAt t g) n
 
 -- the invariants of location l
 abbrev pub invariantsOf : List ℕ → ℕ → List StoredLimit
-invariantsOf t l = limitsOf t (128 + l) (invariantCount t l)
+invariantsOf t l = limitsOf t (invariantGroup l) (invariantCount t l)
 
 -- limit i of those that are handed
 abbrev pub handedLimit : Limits → ℕ → StoredLimit
@@ -98,9 +99,9 @@ pub data Grows : Type 0 where
 
 -- action a of t has the same effects in u, or the same message
 pub record EffectsKept (t u : List ℕ) (a : ℕ) : Type 0 where
-  pub plain : actionKind t a ≡ 0 → effectsOf u a ≡ effectsOf t a
-  pub send : actionKind t a ≡ 1 → expressionsOf u a ≡ expressionsOf t a
-  pub receive : actionKind t a ≡ 2 → targetsOf u a ≡ targetsOf t a
+  pub plain : actionKind t a ≡ plainKind → effectsOf u a ≡ effectsOf t a
+  pub send : actionKind t a ≡ sendKind → expressionsOf u a ≡ expressionsOf t a
+  pub receive : actionKind t a ≡ receiveKind → targetsOf u a ≡ targetsOf t a
 
 -- every part of t is in u, under its number, but for what is added to
 pub record Kept (more : Grows) (t u : List ℕ) : Type 0 where

@@ -4,3 +4,4 @@ pub mod limits;
 pub mod locations;
 pub mod rows;
 pub mod transitions;
+pub mod variables;

@@ -3,6 +3,7 @@ use Prim.Native.Nat.{ℕ, zero, suc, _+_, _-_, _*_, _≤_, _<_}
 use mathlib.Core.Path.{_≡_, refl, ap, _∙_}
 use mathlib.Core.Bool.{Bool, true, false, cond, _||_}
 use mathlib.Core.List.{List, _++_}
+use native.Mathlib.Nat.{add-zero}
 use native.Mathlib.Omega.{arith}
 use borrow.Author.Tests.{ltb-true, leb-true, eqb-true, lt-ltb, le-leb, eq-eqb}
 use lib.Dec.{eqb, ltb}
@@ -11,13 +12,15 @@ use lib.Seq.{ext-getD, getD-take, getD-drop, take-add}
 use Rattle.laws.specs.Below.{allBelow, sumBelow}
 use Rattle.laws.proofs.BelowLaws.{and-first, and-rest, and-both, and-kept, all-at, all-from, all-kept, sum-same}
 use Rattle.grammar.specs.Draws.{drawsOf}
-use Rattle.grammar.specs.Typing.{typeOf}
+use Rattle.grammar.specs.Typing.{typeOf, isTyped, typedAs}
 use Rattle.grammar.proofs.MoreKinds.{type-more}
 use Rattle.grammar.specs.declared.values.«Type».{«Type» as Kind}
 use Rattle.grammar.specs.declared.typing.Typed.{Typed}
 use Rattle.grammar.specs.declared.typing.Typed.the-variants.{Known, IllTyped, TableFull, TooDeep}
-use Rattle.graph_tables.specs.Words.{Words, variableCount, clockCount, locationCount, actionCount, processCount, transitionCount, kindAt, kindsOf, valueAt, placeAt, invariantCount, actionKind, resetCount, effectCount, resetAt, effectVar, effectLength, keyOf, guardLength, limitCount, preOf, actionOf, postOf, clockOf, lowerOf, upperOf, guardItems, effectItems, epsilon}
-use Rattle.graph_tables.specs.Formed.{countsFormed, variableFormed, clockBefore, limitFormed, limitsFormed, locationFormed, zeroInside, processFormed, resetBefore, resetFormed, resetsFormed, isTyped, typedAs, effectFormed, effectDraws, plainFormed, expressionFormed, sendFormed, targetFormed, receiveFormed, actionFormed, actionKnown, keyFormed, keyBefore, guardFormed, transitionFormed, partsFormed, startedOf, wellFormed}
+use Rattle.graph_tables.specs.Layout.{kindsStart, actionWidth, transitionWidth, limitWidth, groupWidth, resetsFrom, varsFrom, lengthsFrom, actionRow, transitionRow, groupStart, guardSlot, effectSlot}
+use Rattle.graph_tables.specs.Sizes.{actionRoom, transitionRoom, variableRoom, limitRoom, effectRoom, resetRoom, messageRoom, itemRoom, plainKind, sendKind}
+use Rattle.graph_tables.specs.Words.{Words, variableCount, clockCount, locationCount, actionCount, processCount, transitionCount, kindAt, kindsOf, valueAt, placeAt, invariantCount, actionKind, resetCount, effectCount, resetAt, effectVar, effectLength, keyOf, guardLength, limitCount, preOf, actionOf, postOf, clockOf, lowerOf, upperOf, guardItems, effectItems, epsilon, invariantGroup}
+use Rattle.graph_tables.specs.Formed.{countsFormed, variableFormed, clockBefore, limitFormed, limitsFormed, locationFormed, zeroInside, processFormed, resetBefore, resetFormed, resetsFormed, effectFormed, effectDraws, plainFormed, expressionFormed, sendFormed, targetFormed, receiveFormed, actionFormed, actionKnown, keyFormed, keyBefore, guardFormed, transitionFormed, partsFormed, startedOf, wellFormed}
 use Rattle.graph_tables.specs.Sound.{Counted}
 use Rattle.graph_tables.proofs.FormedLaws.{few-limits, short-effects, short-expressions, counted}
 
@@ -70,7 +73,7 @@ pub record Grown (t u : List ℕ) : Type 0 where
   pub words : Words t
   pub grown-words : Words u
   pub variables : variableCount t ≤ variableCount u
-  pub few : variableCount u ≤ 16
+  pub few : variableCount u ≤ variableRoom
   pub kinds : (v : ℕ) → v < variableCount t → kindAt u v ≡ kindAt t v
   pub clocks : clockCount t ≤ clockCount u
   pub locations : locationCount t ≤ locationCount u
@@ -113,30 +116,27 @@ variable-kept t u v kind value h = rw (kind, value) h
 
 -- ---- limits: group g of t is group h of u
 abbrev pub GroupMoved : List ℕ → List ℕ → ℕ → ℕ → Type 0
-GroupMoved t u g h = Moved t u (2090 + 24 * g) (2090 + 24 * h) 24
+GroupMoved t u g h = Moved t u (groupStart g) (groupStart h) groupWidth
 
 module _ (t u : List ℕ) (g h : ℕ) (moved : GroupMoved t u g h) where
-  limit-word : (j p q : ℕ) → j < 24 → p ≡ 2090 + 24 * h + j → q ≡ 2090 + 24 * g + j → getD u p 0 ≡ getD t q 0
-  limit-word j p q = word-moved t u _ _ 24 j p q moved
+  pub clock-moved : (i : ℕ) → i < limitRoom → clockOf u h i ≡ clockOf t g i
+  clock-moved i l = moved (limitWidth * i) (omega arith)
 
-  pub clock-moved : (i : ℕ) → i < 8 → clockOf u h i ≡ clockOf t g i
-  clock-moved i l = moved (3 * i) (omega arith)
+  pub lower-moved : (i : ℕ) → i < limitRoom → lowerOf u h i ≡ lowerOf t g i
+  lower-moved i l = word-moved t u _ _ groupWidth (limitWidth * i + 1) _ _ moved (omega arith) (omega arith) (omega arith)
 
-  pub lower-moved : (i : ℕ) → i < 8 → lowerOf u h i ≡ lowerOf t g i
-  lower-moved i l = limit-word (3 * i + 1) _ _ (omega arith) (omega arith) (omega arith)
+  pub upper-moved : (i : ℕ) → i < limitRoom → upperOf u h i ≡ upperOf t g i
+  upper-moved i l = word-moved t u _ _ groupWidth (limitWidth * i + 2) _ _ moved (omega arith) (omega arith) (omega arith)
 
-  pub upper-moved : (i : ℕ) → i < 8 → upperOf u h i ≡ upperOf t g i
-  upper-moved i l = limit-word (3 * i + 2) _ _ (omega arith) (omega arith) (omega arith)
-
-  before-moved : (i : ℕ) → i < 8 → clockBefore u h i ≡ clockBefore t g i
+  before-moved : (i : ℕ) → i < limitRoom → clockBefore u h i ≡ clockBefore t g i
   before-moved zero l = refl
   before-moved (suc i) l = clock-moved i (omega arith)
 
-  pub zero-kept : (i : ℕ) → i < 8 → zeroInside u h i ≡ zeroInside t g i
+  pub zero-kept : (i : ℕ) → i < limitRoom → zeroInside u h i ≡ zeroInside t g i
   unfolding zeroInside
   zero-kept i l = rw (lower-moved i l, upper-moved i l)
 
-  limit-kept : clockCount t ≤ clockCount u → (i : ℕ) → i < 8 → limitFormed t g i ≡ true → limitFormed u h i ≡ true
+  limit-kept : clockCount t ≤ clockCount u → (i : ℕ) → i < limitRoom → limitFormed t g i ≡ true → limitFormed u h i ≡ true
   unfolding limitFormed
   limit-kept more i l f =
       rw (clock-moved i l, lower-moved i l, upper-moved i l, before-moved i l) (and-kept (below-kept (clockOf t g i) more) (λ r. r) f)
@@ -145,22 +145,22 @@ module _ {t u : List ℕ} (grown : Grown t u) where
   pub limits-kept : (g h n : ℕ) → GroupMoved t u g h → limitsFormed t g n ≡ true → limitsFormed u h n ≡ true
   unfolding limitsFormed
   limits-kept g h n moved f =
-      let few : n ≤ 8 = few-limits t g n f in
+      let few : n ≤ limitRoom = few-limits t g n f in
       and-kept (λ r. r) (all-kept (limitFormed t g) (limitFormed u h) n (λ i l. limit-kept t u g h moved (grown .clocks) i (omega arith))) f
 
   -- ---- locations and processes
-  pub location-kept : (l : ℕ) → invariantCount u l ≡ invariantCount t l → GroupMoved t u (128 + l) (128 + l) → locationFormed t l ≡ true → locationFormed u l ≡ true
+  pub location-kept : (l : ℕ) → invariantCount u l ≡ invariantCount t l → GroupMoved t u (invariantGroup l) (invariantGroup l) → locationFormed t l ≡ true → locationFormed u l ≡ true
   unfolding locationFormed
-  location-kept l count moved f = rw count (limits-kept (128 + l) (128 + l) (invariantCount t l) moved f)
+  location-kept l count moved f = rw count (limits-kept (invariantGroup l) (invariantGroup l) (invariantCount t l) moved f)
 
   pub process-kept : (p : ℕ) → placeAt u p ≡ placeAt t p → invariantCount u (placeAt t p) ≡ invariantCount t (placeAt t p)
-      → GroupMoved t u (128 + placeAt t p) (128 + placeAt t p) → invariantCount t (placeAt t p) ≤ 8 → processFormed t p ≡ true → processFormed u p ≡ true
+      → GroupMoved t u (invariantGroup (placeAt t p)) (invariantGroup (placeAt t p)) → invariantCount t (placeAt t p) ≤ limitRoom → processFormed t p ≡ true → processFormed u p ≡ true
   unfolding processFormed
   process-kept p place count moved few f =
       let l = placeAt t p in
       rw (place, count)
       (and-kept (below-kept l (grown .locations))
-      (all-kept (zeroInside t (128 + l)) (zeroInside u (128 + l)) (invariantCount t l) (λ i k z. zero-kept t u (128 + l) (128 + l) moved i (omega arith) ∙ z))
+      (all-kept (zeroInside t (invariantGroup l)) (zeroInside u (invariantGroup l)) (invariantCount t l) (λ i k z. zero-kept t u (invariantGroup l) (invariantGroup l) moved i (omega arith) ∙ z))
       f)
 
 -- ---- the kinds of variables and of expressions
@@ -182,10 +182,10 @@ module _ {t u : List ℕ} (grown : Grown t u) where
   kinds-grown =
       let n = variableCount t in
       let m = variableCount u - n in
-      let more = take m (drop n (drop 6 u)) in
+      let more = take m (drop n (drop kindsStart u)) in
       let sum : variableCount u ≡ n + m = omega arith in
-      let front : take n (drop 6 u) ≡ kindsOf t = items-moved t u 6 6 n n (omega arith) (omega arith) (omega arith) (grown .kinds) in
-      (more, ap (λ (k : ℕ). take k (drop 6 u)) sum ∙ take-add n m (drop 6 u) ∙ ap (λ (l : List ℕ). l ++ more) front)
+      let front : take n (drop kindsStart u) ≡ kindsOf t = items-moved t u kindsStart kindsStart n n (omega arith) (omega arith) (omega arith) (grown .kinds) in
+      (more, ap (λ (k : ℕ). take k (drop kindsStart u)) sum ∙ take-add n m (drop kindsStart u) ∙ ap (λ (l : List ℕ). l ++ more) front)
 
   pub typed-grown : (ws : List ℕ) (k : Kind) → typeOf (kindsOf t) ws ≡ Known k → typeOf (kindsOf u) ws ≡ Known k
   typed-grown ws k h = let g = kinds-grown in rw (g .1) (type-more (kindsOf t) (g .0) ws k h)
@@ -202,9 +202,9 @@ module _ {t u : List ℕ} (grown : Grown t u) where
 -- ---- actions
 -- expression e of action a has the same items
 abbrev pub ItemsKept : List ℕ → List ℕ → ℕ → ℕ → Type 0
-ItemsKept t u a e = Moved t u (14122 + 64 * (32 * e + a)) (14122 + 64 * (32 * e + a)) 64
+ItemsKept t u a e = Moved t u (effectSlot a e) (effectSlot a e) itemRoom
 
-few-resets : (t : List ℕ) (a : ℕ) → resetsFormed t a ≡ true → resetCount t a ≤ 16
+few-resets : (t : List ℕ) (a : ℕ) → resetsFormed t a ≡ true → resetCount t a ≤ resetRoom
 unfolding resetsFormed
 few-resets t a h = leb-true _ _ (and-first _ _ h)
 
@@ -226,12 +226,12 @@ module _ {t u : List ℕ} (grown : Grown t u) (a : ℕ) where
   unfolding targetFormed
   target-kept e var h = rw var (below-kept (effectVar t a e) (grown .variables) h)
 
-  module _ (known : a < 32) where
+  module _ (known : a < actionRoom) where
     -- expression e, of the same length, with the same items
-    module _ (e : ℕ) (room : e < 16) (same : effectLength u a e ≡ effectLength t a e) (items : ItemsKept t u a e) where
-      pub items-kept : effectLength t a e ≤ 64 → effectItems u a e ≡ effectItems t a e
+    module _ (e : ℕ) (room : e < effectRoom) (same : effectLength u a e ≡ effectLength t a e) (items : ItemsKept t u a e) where
+      pub items-kept : effectLength t a e ≤ itemRoom → effectItems u a e ≡ effectItems t a e
       items-kept few =
-          rw same (items-moved t u (14122 + 64 * (32 * e + a)) (14122 + 64 * (32 * e + a)) 64 (effectLength t a e) few (omega arith) (omega arith) items)
+          rw same (items-moved t u (effectSlot a e) (effectSlot a e) itemRoom (effectLength t a e) few (omega arith) (omega arith) items)
 
       pub effect-kept : effectVar u a e ≡ effectVar t a e → effectFormed t a e ≡ true → effectFormed u a e ≡ true
       unfolding effectFormed
@@ -247,44 +247,44 @@ module _ {t u : List ℕ} (grown : Grown t u) (a : ℕ) where
           rw (items-kept (leb-true _ _ (and-first _ _ h)), same) (and-kept (λ r. r) (is-typed-grown grown (effectItems t a e)) h)
 
     -- the first n expressions, of the same lengths, with the same items
-    module _ (n : ℕ) (room : n ≤ 16) (same : (e : ℕ) → e < n → effectLength u a e ≡ effectLength t a e) (items : (e : ℕ) → e < n → ItemsKept t u a e) where
+    module _ (n : ℕ) (room : n ≤ effectRoom) (same : (e : ℕ) → e < n → effectLength u a e ≡ effectLength t a e) (items : (e : ℕ) → e < n → ItemsKept t u a e) where
       pub effects-kept : ((e : ℕ) → e < n → effectVar u a e ≡ effectVar t a e) → allBelow n (effectFormed t a) ≡ true → allBelow n (effectFormed u a) ≡ true
       effects-kept vars = all-kept (effectFormed t a) (effectFormed u a) n (λ e l. effect-kept e (omega arith) (same e l) (items e l) (vars e l))
 
       pub expressions-kept : allBelow n (expressionFormed t a) ≡ true → allBelow n (expressionFormed u a) ≡ true
       expressions-kept = all-kept (expressionFormed t a) (expressionFormed u a) n (λ e l. expression-kept e (omega arith) (same e l) (items e l))
 
-      pub draws-kept : ((e : ℕ) → e < n → effectLength t a e ≤ 64) → sumBelow n (effectDraws u a) ≡ sumBelow n (effectDraws t a)
+      pub draws-kept : ((e : ℕ) → e < n → effectLength t a e ≤ itemRoom) → sumBelow n (effectDraws u a) ≡ sumBelow n (effectDraws t a)
       unfolding effectDraws
       draws-kept few = sum-same (effectDraws u a) (effectDraws t a) n (λ e l. ap drawsOf (items-kept e (omega arith) (same e l) (items e l) (few e l)))
 
     -- the whole action, word by word
-    module _ (row : Moved t u (74 + 51 * a) (74 + 51 * a) 51) (items : (e : ℕ) → e < 16 → ItemsKept t u a e) where
-      word : (j p : ℕ) → j < 51 → p ≡ 74 + 51 * a + j → getD u p 0 ≡ getD t p 0
-      word j p l e = word-moved t u _ _ 51 j p p row l e e
+    module _ (row : Moved t u (actionRow a) (actionRow a) actionWidth) (items : (e : ℕ) → e < effectRoom → ItemsKept t u a e) where
+      kind-word : actionKind u a ≡ actionKind t a
+      kind-word = simp add-zero at (row 0 (omega arith))
 
       reset-word : resetCount u a ≡ resetCount t a
-      reset-word = word 1 _ (omega arith) (omega arith)
+      reset-word = row 1 (omega arith)
 
       count-word : effectCount u a ≡ effectCount t a
-      count-word = word 2 _ (omega arith) (omega arith)
+      count-word = row 2 (omega arith)
 
-      var-word : (e : ℕ) → e < 16 → effectVar u a e ≡ effectVar t a e
-      var-word e l = word (19 + e) _ (omega arith) (omega arith)
+      var-word : (e : ℕ) → e < effectRoom → effectVar u a e ≡ effectVar t a e
+      var-word e l = row (varsFrom + e) (omega arith)
 
-      length-word : (e : ℕ) → e < 16 → effectLength u a e ≡ effectLength t a e
-      length-word e l = word (35 + e) _ (omega arith) (omega arith)
+      length-word : (e : ℕ) → e < effectRoom → effectLength u a e ≡ effectLength t a e
+      length-word e l = row (lengthsFrom + e) (omega arith)
 
       plain-kept : plainFormed t a ≡ true → plainFormed u a ≡ true
       unfolding plainFormed
       plain-kept h =
           let n = effectCount t a in
-          let few : n ≤ 16 = leb-true _ _ (and-first _ _ (and-rest _ _ h)) in
-          let most : resetCount t a ≤ 16 = few-resets t a (and-first _ _ h) in
+          let few : n ≤ effectRoom = leb-true _ _ (and-first _ _ (and-rest _ _ h)) in
+          let most : resetCount t a ≤ resetRoom = few-resets t a (and-first _ _ h) in
           let same : (e : ℕ) → e < n → effectLength u a e ≡ effectLength t a e = λ e l. length-word e (omega arith) in
           let each : (e : ℕ) → e < n → ItemsKept t u a e = λ e l. items e (omega arith) in
           rw (count-word, draws-kept n few same each (short-effects t a n (and-first _ _ (and-rest _ _ (and-rest _ _ h)))))
-          (and-kept (resets-kept reset-word (λ i l. word (3 + i) _ (omega arith) (omega arith)))
+          (and-kept (resets-kept reset-word (λ i l. row (resetsFrom + i) (omega arith)))
           (and-kept (λ r. r) (and-kept (effects-kept n few same each (λ e l. var-word e (omega arith))) (λ r. r)))
           h)
 
@@ -292,7 +292,7 @@ module _ {t u : List ℕ} (grown : Grown t u) (a : ℕ) where
       unfolding sendFormed
       send-kept h =
           let n = effectCount t a in
-          let few : n ≤ 4 = leb-true _ _ (and-first _ _ (and-rest _ _ h)) in
+          let few : n ≤ messageRoom = leb-true _ _ (and-first _ _ (and-rest _ _ h)) in
           let same : (e : ℕ) → e < n → effectLength u a e ≡ effectLength t a e = λ e l. length-word e (omega arith) in
           let each : (e : ℕ) → e < n → ItemsKept t u a e = λ e l. items e (omega arith) in
           rw (reset-word, count-word, draws-kept n (omega arith) same each (short-expressions t a n (and-first _ _ (and-rest _ _ (and-rest _ _ h)))))
@@ -302,16 +302,15 @@ module _ {t u : List ℕ} (grown : Grown t u) (a : ℕ) where
       unfolding receiveFormed
       receive-kept h =
           let n = effectCount t a in
-          let few : n ≤ 4 = leb-true _ _ (and-first _ _ (and-rest _ _ h)) in
+          let few : n ≤ messageRoom = leb-true _ _ (and-first _ _ (and-rest _ _ h)) in
           rw (reset-word, count-word)
           (and-kept (λ r. r) (and-kept (λ r. r) (all-kept (targetFormed t a) (targetFormed u a) n (λ e l. target-kept e (var-word e (omega arith))))) h)
 
       pub action-kept : actionFormed t a ≡ true → actionFormed u a ≡ true
       unfolding actionFormed
       action-kept h =
-          let kind : actionKind u a ≡ actionKind t a = word 0 _ (omega arith) (omega arith) in
-          rw kind
-          (choice-kept (eqb (actionKind t a) 0) plain-kept (choice-kept (eqb (actionKind t a) 1) send-kept (and-kept (λ r. r) receive-kept)) h)
+          rw kind-word
+          (choice-kept (eqb (actionKind t a) plainKind) plain-kept (choice-kept (eqb (actionKind t a) sendKind) send-kept (and-kept (λ r. r) receive-kept)) h)
 
 -- ---- transitions
 module _ {t u : List ℕ} (grown : Grown t u) where
@@ -329,25 +328,25 @@ module _ {t u : List ℕ} (grown : Grown t u) where
       and-kept (below-kept (preOf key) (grown .locations)) (and-kept (below-kept (postOf key) (grown .locations)) (known-kept (actionOf key))) h
 
   -- transition k of t is transition m of u
-  module _ (k m : ℕ) (in-t : k < 128) (in-u : m < 128) where
-    pub guard-kept : guardLength u m ≡ guardLength t k → Moved t u (5930 + 64 * k) (5930 + 64 * m) 64 → guardFormed t k ≡ true → guardFormed u m ≡ true
+  module _ (k m : ℕ) (in-t : k < transitionRoom) (in-u : m < transitionRoom) where
+    pub guard-kept : guardLength u m ≡ guardLength t k → Moved t u (guardSlot k) (guardSlot m) itemRoom → guardFormed t k ≡ true → guardFormed u m ≡ true
     unfolding guardFormed
     guard-kept same items h =
         rw same
         (choice-kept (eqb (guardLength t k) 0) (λ r. r)
         (λ f.
-        let few : guardLength t k ≤ 64 = leb-true _ _ (and-first _ _ f) in
-        rw (items-moved t u (5930 + 64 * k) (5930 + 64 * m) 64 (guardLength t k) few (omega arith) (omega arith) items)
+        let few : guardLength t k ≤ itemRoom = leb-true _ _ (and-first _ _ f) in
+        rw (items-moved t u (guardSlot k) (guardSlot m) itemRoom (guardLength t k) few (omega arith) (omega arith) items)
         (and-kept (λ r. r) (and-kept (typed-as-grown grown 0 (guardItems t k)) (λ r. r)) f))
         h)
 
-    pub transition-kept : Moved t u (1706 + 3 * k) (1706 + 3 * m) 3 → GroupMoved t u k m → Moved t u (5930 + 64 * k) (5930 + 64 * m) 64
+    pub transition-kept : Moved t u (transitionRow k) (transitionRow m) transitionWidth → GroupMoved t u k m → Moved t u (guardSlot k) (guardSlot m) itemRoom
         → keyBefore u m ≤ keyOf u m → transitionFormed t k ≡ true → transitionFormed u m ≡ true
     unfolding transitionFormed
     transition-kept row group items order h =
-        let key : keyOf u m ≡ keyOf t k = word-moved t u _ _ 3 0 _ _ row (omega arith) (omega arith) (omega arith) in
-        let guard : guardLength u m ≡ guardLength t k = word-moved t u _ _ 3 1 _ _ row (omega arith) (omega arith) (omega arith) in
-        let count : limitCount u m ≡ limitCount t k = word-moved t u _ _ 3 2 _ _ row (omega arith) (omega arith) (omega arith) in
+        let key : keyOf u m ≡ keyOf t k = simp add-zero at (row 0 (omega arith)) in
+        let guard : guardLength u m ≡ guardLength t k = row 1 (omega arith) in
+        let count : limitCount u m ≡ limitCount t k = row 2 (omega arith) in
         and-kept (λ f. rw key (key-kept (keyOf t k) f))
         (and-kept (λ f. le-leb _ _ order) (and-kept (guard-kept guard items) (λ f. rw count (limits-kept grown k m (limitCount t k) group f))))
         h

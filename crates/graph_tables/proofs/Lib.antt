@@ -1,3 +1,4 @@
 pub mod FormedLaws
 pub mod SoundLaws
 pub mod KeptLaws
+pub mod NumberLaws

@@ -12,13 +12,14 @@ use Rattle.laws.proofs.BelowLaws.{and-first, and-rest, all-at}
 use Rattle.laws.proofs.Tests.{never}
 use Rattle.grammar.specs.Values.{kindWord}
 use Rattle.grammar.specs.Draws.{drawsOf}
-use Rattle.grammar.specs.Typing.{typeOf}
+use Rattle.grammar.specs.Typing.{typeOf, isTyped, typedAs}
 use Rattle.grammar.specs.declared.values.«Type».the-variants as Kind
 use Rattle.grammar.specs.declared.values.«Type».{«Type» as Kind}
 use Rattle.grammar.specs.declared.typing.Typed.{Typed}
 use Rattle.grammar.specs.declared.typing.Typed.the-variants.{Known, IllTyped, TableFull, TooDeep}
-use Rattle.graph_tables.specs.Words.{actionCount, processCount, transitionCount, kindAt, kindsOf, valueAt, placeAt, actionKind, resetCount, effectCount, resetAt, effectVar, keyOf, guardLength, clockOf, guardItems, effectItems, epsilon}
-use Rattle.graph_tables.specs.Formed.{variableFormed, clockBefore, limitFormed, limitsFormed, locationFormed, zeroInside, processFormed, resetBefore, resetFormed, resetsFormed, isTyped, typedAs, effectFormed, plainFormed, expressionFormed, sendFormed, targetFormed, receiveFormed, actionFormed, actionKnown, keyFormed, keyBefore, guardFormed, transitionFormed, partsFormed, startedOf, wellFormed}
+use Rattle.graph_tables.specs.Sizes.{messageRoom, plainKind, sendKind, receiveKind}
+use Rattle.graph_tables.specs.Words.{actionCount, processCount, transitionCount, kindAt, kindsOf, valueAt, placeAt, actionKind, resetCount, effectCount, resetAt, effectVar, keyOf, guardLength, clockOf, guardItems, effectItems, epsilon, invariantGroup}
+use Rattle.graph_tables.specs.Formed.{variableFormed, clockBefore, limitFormed, limitsFormed, locationFormed, zeroInside, processFormed, resetBefore, resetFormed, resetsFormed, effectFormed, plainFormed, expressionFormed, sendFormed, targetFormed, receiveFormed, actionFormed, actionKnown, keyFormed, keyBefore, guardFormed, transitionFormed, partsFormed, startedOf, wellFormed}
 use Rattle.graph_tables.specs.Sound.{VariableSound, LimitsSound, ProcessSound, ResetsSound, ExpressionSound, EffectSound, ActionSound, GuardSound, TransitionSound, Sound}
 use Rattle.graph_tables.proofs.FormedLaws.{few-limits, limits-fit, counted}
 
@@ -65,7 +66,7 @@ unfolding processFormed zeroInside
 process t p h =
     record {
       place = ltb-true _ _ (and-first _ _ h);
-      zero-inside = λ i l. all-at (zeroInside t (128 + placeAt t p)) _ i (and-rest _ _ h) l;
+      zero-inside = λ i l. all-at (zeroInside t (invariantGroup (placeAt t p))) _ i (and-rest _ _ h) l;
     }
 
 -- ---- actions
@@ -111,7 +112,7 @@ expression t a e h =
     let x = known (typeOf (kindsOf t) (effectItems t a e)) (and-rest _ _ h) in
     record { short = leb-true _ _ (and-first _ _ h); kind = x .0; typed = x .1 }
 
-plain : (t : List ℕ) (a : ℕ) → actionKind t a ≡ 0 → plainFormed t a ≡ true → ActionSound t a
+plain : (t : List ℕ) (a : ℕ) → actionKind t a ≡ plainKind → plainFormed t a ≡ true → ActionSound t a
 unfolding plainFormed
 plain t a k h =
     record {
@@ -127,11 +128,11 @@ plain t a k h =
       receive = λ e. absurd (omega arith);
     }
 
-send : (t : List ℕ) (a : ℕ) → actionKind t a ≡ 1 → sendFormed t a ≡ true → ActionSound t a
+send : (t : List ℕ) (a : ℕ) → actionKind t a ≡ sendKind → sendFormed t a ≡ true → ActionSound t a
 unfolding sendFormed
 send t a k h =
     let z : resetCount t a ≡ 0 = eqb-true _ _ (and-first _ _ h) in
-    let n : effectCount t a ≤ 4 = leb-true _ _ (and-first _ _ (and-rest _ _ h)) in
+    let n : effectCount t a ≤ messageRoom = leb-true _ _ (and-first _ _ (and-rest _ _ h)) in
     record {
       kind = omega arith;
       resets = no-resets t a z;
@@ -147,11 +148,11 @@ send t a k h =
       receive = λ e. absurd (omega arith);
     }
 
-receive : (t : List ℕ) (a : ℕ) → actionKind t a ≡ 2 → receiveFormed t a ≡ true → ActionSound t a
+receive : (t : List ℕ) (a : ℕ) → actionKind t a ≡ receiveKind → receiveFormed t a ≡ true → ActionSound t a
 unfolding receiveFormed targetFormed
 receive t a k h =
     let z : resetCount t a ≡ 0 = eqb-true _ _ (and-first _ _ h) in
-    let n : effectCount t a ≤ 4 = leb-true _ _ (and-first _ _ (and-rest _ _ h)) in
+    let n : effectCount t a ≤ messageRoom = leb-true _ _ (and-first _ _ (and-rest _ _ h)) in
     record {
       kind = omega arith;
       resets = no-resets t a z;
@@ -164,10 +165,10 @@ receive t a k h =
 action : (t : List ℕ) (a : ℕ) → actionFormed t a ≡ true → ActionSound t a
 unfolding actionFormed
 action t a h =
-    by-test (eqb (actionKind t a) 0) _ _ h
+    by-test (eqb (actionKind t a) plainKind) _ _ h
     (λ z f. plain t a (eqb-true _ _ z) f)
     (λ z g.
-    by-test (eqb (actionKind t a) 1) _ _ g
+    by-test (eqb (actionKind t a) sendKind) _ _ g
     (λ y f. send t a (eqb-true _ _ y) f)
     (λ y f. receive t a (eqb-true _ _ (and-first _ _ f)) (and-rest _ _ f)))
 
@@ -223,7 +224,7 @@ sound t building h =
       words = eqb-true _ _ (and-first _ _ h);
       counts = counted t (and-first _ _ (and-rest _ _ h));
       variable = λ v l. variable t v (all-at (variableFormed t) _ v (and-first _ _ p) l);
-      invariants = λ i l. limits t (128 + i) _ (all-at (locationFormed t) _ i (and-first _ _ (and-rest _ _ p)) l);
+      invariants = λ i l. limits t (invariantGroup i) _ (all-at (locationFormed t) _ i (and-first _ _ (and-rest _ _ p)) l);
       process = λ i l. process t i (all-at (processFormed t) _ i (and-first _ _ (and-rest _ _ (and-rest _ _ p))) l);
       action = λ a l. action t a (all-at (actionFormed t) _ a (and-first _ _ (and-rest _ _ (and-rest _ _ (and-rest _ _ p)))) l);
       transition = λ k l. transition t k (each k l);

@@ -7,26 +7,25 @@ use lib.Dec.{eqb, leb, ltb}
 use lib.ListN.{length}
 use Rattle.laws.specs.Below.{_and_, allBelow, sumBelow}
 use Rattle.time.specs.Time.{inRange}
-use Rattle.grammar.specs.Values.{kindWord}
 use Rattle.grammar.specs.Draws.{drawsOf}
-use Rattle.grammar.specs.Typing.{typeOf}
-use Rattle.grammar.specs.declared.typing.Typed.{Typed}
-use Rattle.grammar.specs.declared.typing.Typed.the-variants.{Known, IllTyped, TableFull, TooDeep}
-use Rattle.graph_tables.specs.Words.{variableCount, clockCount, locationCount, actionCount, processCount, transitionCount, kindAt, kindsOf, valueAt, placeAt, invariantCount, actionKind, resetCount, effectCount, resetAt, effectVar, effectLength, keyOf, guardLength, limitCount, preOf, actionOf, postOf, clockOf, lowerOf, upperOf, limitRange, guardItems, effectItems, epsilon}
+use Rattle.grammar.specs.Typing.{typeOf, isTyped, typedAs}
+use Rattle.graph_tables.specs.Layout.{tableWords}
+use Rattle.graph_tables.specs.Sizes.{processRoom, locationRoom, actionRoom, transitionRoom, variableRoom, clockRoom, limitRoom, effectRoom, resetRoom, drawRoom, messageRoom, itemRoom, word32, plainKind, sendKind, receiveKind}
+use Rattle.graph_tables.specs.Words.{variableCount, clockCount, locationCount, actionCount, processCount, transitionCount, kindAt, kindsOf, valueAt, placeAt, invariantCount, actionKind, resetCount, effectCount, resetAt, effectVar, effectLength, keyOf, guardLength, limitCount, preOf, actionOf, postOf, clockOf, lowerOf, upperOf, limitRange, guardItems, effectItems, epsilon, invariantGroup}
 
 -- ---- counts
 unfoldable pub countsFormed : List ℕ → Bool
 countsFormed t =
-    leb (variableCount t) 16 and leb (clockCount t) 8 and leb (locationCount t) 32 and leb (actionCount t) 32 and
-    leb (processCount t) 4 and leb (transitionCount t) 128
+    leb (variableCount t) variableRoom and leb (clockCount t) clockRoom and leb (locationCount t) locationRoom and leb (actionCount t) actionRoom and
+    leb (processCount t) processRoom and leb (transitionCount t) transitionRoom
 
 -- ---- variables: a boolean is 0 or 1, an integer has 32 bits
 unfoldable pub variableFormed : List ℕ → ℕ → Bool
-variableFormed t v = cond (eqb (kindAt t v) 0) (ltb (valueAt t v) 2) (eqb (kindAt t v) 1 and ltb (valueAt t v) 4294967296)
+variableFormed t v = cond (eqb (kindAt t v) 0) (ltb (valueAt t v) 2) (eqb (kindAt t v) 1 and ltb (valueAt t v) word32)
 
 -- ---- limits: a known clock, two bounds, in the order of their clocks
 unfoldable pub boundFormed : ℕ → Bool
-boundFormed w = cond (eqb w 0) true (cond (eqb (w % 4) 0) false (cond (eqb (w % 4) 3) false (ltb (w / 4) 4294967296)))
+boundFormed w = cond (eqb w 0) true (cond (eqb (w % 4) 0) false (cond (eqb (w % 4) 3) false (ltb (w / 4) word32)))
 
 -- the clock of the limit before, and 0 before the first
 abbrev pub clockBefore : List ℕ → ℕ → ℕ → ℕ
@@ -38,18 +37,18 @@ limitFormed t g i =
     ltb (clockOf t g i) (clockCount t) and boundFormed (lowerOf t g i) and boundFormed (upperOf t g i) and leb (clockBefore t g i) (clockOf t g i)
 
 unfoldable pub limitsFormed : List ℕ → ℕ → ℕ → Bool
-limitsFormed t g n = leb n 8 and allBelow n (limitFormed t g)
+limitsFormed t g n = leb n limitRoom and allBelow n (limitFormed t g)
 
 -- ---- locations
 unfoldable pub locationFormed : List ℕ → ℕ → Bool
-locationFormed t l = limitsFormed t (128 + l) (invariantCount t l)
+locationFormed t l = limitsFormed t (invariantGroup l) (invariantCount t l)
 
 -- ---- processes: each at a location whose invariants contain time 0
 unfoldable pub zeroInside : List ℕ → ℕ → ℕ → Bool
 zeroInside t g i = inRange (limitRange t g i) 0
 
 unfoldable pub processFormed : List ℕ → ℕ → Bool
-processFormed t p = ltb (placeAt t p) (locationCount t) and allBelow (invariantCount t (placeAt t p)) (zeroInside t (128 + placeAt t p))
+processFormed t p = ltb (placeAt t p) (locationCount t) and allBelow (invariantCount t (placeAt t p)) (zeroInside t (invariantGroup (placeAt t p)))
 
 -- ---- actions
 abbrev pub resetBefore : List ℕ → ℕ → ℕ → ℕ
@@ -60,52 +59,39 @@ unfoldable pub resetFormed : List ℕ → ℕ → ℕ → Bool
 resetFormed t a i = ltb (resetAt t a i) (clockCount t) and leb (resetBefore t a i) (resetAt t a i)
 
 unfoldable pub resetsFormed : List ℕ → ℕ → Bool
-resetsFormed t a = leb (resetCount t a) 16 and allBelow (resetCount t a) (resetFormed t a)
-
--- an expression has a kind, and one of this word
-abbrev pub isTyped : Typed → Bool
-isTyped (Known k) = true
-isTyped IllTyped = false
-isTyped TableFull = false
-isTyped (TooDeep k) = false
-
-abbrev pub typedAs : ℕ → Typed → Bool
-typedAs w (Known k) = eqb (kindWord k) w
-typedAs w IllTyped = false
-typedAs w TableFull = false
-typedAs w (TooDeep k) = false
+resetsFormed t a = leb (resetCount t a) resetRoom and allBelow (resetCount t a) (resetFormed t a)
 
 unfoldable pub effectFormed : List ℕ → ℕ → ℕ → Bool
 effectFormed t a e =
-    ltb (effectVar t a e) (variableCount t) and leb (effectLength t a e) 64 and typedAs (kindAt t (effectVar t a e)) (typeOf (kindsOf t) (effectItems t a e))
+    ltb (effectVar t a e) (variableCount t) and leb (effectLength t a e) itemRoom and typedAs (kindAt t (effectVar t a e)) (typeOf (kindsOf t) (effectItems t a e))
 
--- at most 64 draws in all effects, in all expressions of a message
+-- all effects together, and all expressions of a message, have room for their draws
 unfoldable pub effectDraws : List ℕ → ℕ → ℕ → ℕ
 effectDraws t a e = drawsOf (effectItems t a e)
 
 unfoldable pub plainFormed : List ℕ → ℕ → Bool
 plainFormed t a =
-    resetsFormed t a and leb (effectCount t a) 16 and allBelow (effectCount t a) (effectFormed t a) and leb (sumBelow (effectCount t a) (effectDraws t a)) 64
+    resetsFormed t a and leb (effectCount t a) effectRoom and allBelow (effectCount t a) (effectFormed t a) and leb (sumBelow (effectCount t a) (effectDraws t a)) drawRoom
 
--- communications reset nothing; a message has at most 4 values
+-- communications reset nothing; a message has room for few values
 unfoldable pub expressionFormed : List ℕ → ℕ → ℕ → Bool
-expressionFormed t a e = leb (effectLength t a e) 64 and isTyped (typeOf (kindsOf t) (effectItems t a e))
+expressionFormed t a e = leb (effectLength t a e) itemRoom and isTyped (typeOf (kindsOf t) (effectItems t a e))
 
 unfoldable pub sendFormed : List ℕ → ℕ → Bool
 sendFormed t a =
-    eqb (resetCount t a) 0 and leb (effectCount t a) 4 and allBelow (effectCount t a) (expressionFormed t a) and leb (sumBelow (effectCount t a) (effectDraws t a)) 64
+    eqb (resetCount t a) 0 and leb (effectCount t a) messageRoom and allBelow (effectCount t a) (expressionFormed t a) and leb (sumBelow (effectCount t a) (effectDraws t a)) drawRoom
 
 unfoldable pub targetFormed : List ℕ → ℕ → ℕ → Bool
 targetFormed t a e = ltb (effectVar t a e) (variableCount t)
 
 unfoldable pub receiveFormed : List ℕ → ℕ → Bool
-receiveFormed t a = eqb (resetCount t a) 0 and leb (effectCount t a) 4 and allBelow (effectCount t a) (targetFormed t a)
+receiveFormed t a = eqb (resetCount t a) 0 and leb (effectCount t a) messageRoom and allBelow (effectCount t a) (targetFormed t a)
 
 unfoldable pub actionFormed : List ℕ → ℕ → Bool
 actionFormed t a =
-    cond (eqb (actionKind t a) 0) (plainFormed t a)
-    (cond (eqb (actionKind t a) 1) (sendFormed t a)
-    (eqb (actionKind t a) 2 and receiveFormed t a))
+    cond (eqb (actionKind t a) plainKind) (plainFormed t a)
+    (cond (eqb (actionKind t a) sendKind) (sendFormed t a)
+    (eqb (actionKind t a) receiveKind and receiveFormed t a))
 
 -- ---- transitions: known parts, in the order of their keys; a guard is a boolean without draws
 unfoldable pub actionKnown : List ℕ → ℕ → Bool
@@ -121,7 +107,7 @@ keyBefore t (suc k) = keyOf t k
 unfoldable pub guardFormed : List ℕ → ℕ → Bool
 guardFormed t k =
     cond (eqb (guardLength t k) 0) true
-    (leb (guardLength t k) 64 and typedAs 0 (typeOf (kindsOf t) (guardItems t k)) and eqb (drawsOf (guardItems t k)) 0)
+    (leb (guardLength t k) itemRoom and typedAs 0 (typeOf (kindsOf t) (guardItems t k)) and eqb (drawsOf (guardItems t k)) 0)
 
 unfoldable pub transitionFormed : List ℕ → ℕ → Bool
 transitionFormed t k =
@@ -137,4 +123,4 @@ unfoldable pub startedOf : List ℕ → Bool → Bool
 startedOf t building = building || ltb 0 (processCount t)
 
 unfoldable pub wellFormed : List ℕ → Bool → Bool
-wellFormed t building = eqb (length t) 46890 and countsFormed t and startedOf t building and partsFormed t
+wellFormed t building = eqb (length t) tableWords and countsFormed t and startedOf t building and partsFormed t

@@ -3,6 +3,7 @@ use Prim.Native.Nat.{ℕ}
 use lib.ListN.{getD, replicate}
 use Rattle.time.specs.declared.Bound.the-variants.{Included}
 use Rattle.time.specs.declared.TimeRange.{TimeRange}
+use Rattle.graph_tables.specs.Sizes.{limitRoom}
 use Rattle.graph_tables.specs.declared.handed.Limit.{Limit}
 use Rattle.graph_tables.specs.declared.handed.Limits.{Limits}
 use Rattle.graph_tables.specs.declared.handed.Vars.{Vars}
@@ -12,7 +13,7 @@ abbrev pub blankLimit : Limit
 blankLimit = record { clock = record { 0 = 0 }; range = record { lower = Included 0; upper = Included 0 } }
 
 abbrev pub noLimits : Limits
-noLimits = record { limits = replicate 8 blankLimit; count = 0 }
+noLimits = record { limits = replicate limitRoom blankLimit; count = 0 }
 
 -- the clock of limit i, and the times at which it may stand
 abbrev pub handedClock : Limits → ℕ → ℕ

@@ -1,5 +1,9 @@
 pub mod Refusals
+pub mod Answers
 pub mod Handed
+pub mod Sizes
+pub mod Layout
 pub mod Words
+pub mod RunWords
 pub mod Formed
 pub mod Sound

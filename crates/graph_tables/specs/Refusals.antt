@@ -1,5 +1,7 @@
 -- The number of each refusal.
-use Prim.Native.Nat.{ℕ}
+use Prim.Native.Nat.{ℕ, _-_}
+use mathlib.Core.List.{List, [], _∷_}
+use lib.ListN.{getD}
 use Rattle.graph_tables.specs.declared.refusals.Refusal.{Refusal}
 use Rattle.graph_tables.specs.declared.refusals.Refusal.the-variants as R
 
@@ -36,3 +38,14 @@ numberOf R.NoProcess = 29
 numberOf R.MissingChannel = 30
 numberOf R.ChannelTooLarge = 31
 numberOf R.BadState = 32
+
+-- The refusals in the order of their numbers, and the one of a number from 1 to 32.
+abbrev pub refusals : List Refusal
+refusals =
+    R.MissingAction ∷ R.MissingClock ∷ R.MissingLocation ∷ R.MissingVar ∷ R.TypeMismatch ∷ R.«Type» ∷ R.MismatchingPostStates ∷ R.UnsatisfiedGuard ∷
+    R.Invariant ∷ R.NoEffects ∷ R.EffectOnSend ∷ R.EffectOnReceive ∷ R.Communication ∷ R.NotSend ∷ R.NotReceive ∷ R.Sync ∷
+    R.MissingPg ∷ R.ActionNotInPg ∷ R.LocationNotInPg ∷ R.OutOfCapacity ∷ R.Empty ∷ R.NotEmpty ∷ R.NotFull ∷ R.ProbingHandshakeChannel ∷
+    R.ProbingInfiniteQueue ∷ R.Overflow ∷ R.NoRoom ∷ R.TableFull ∷ R.NoProcess ∷ R.MissingChannel ∷ R.ChannelTooLarge ∷ R.BadState ∷ []
+
+abbrev pub refusal : ℕ → Refusal
+refusal n = getD refusals (n - 1) R.BadState

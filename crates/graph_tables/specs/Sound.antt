@@ -11,35 +11,36 @@ use Rattle.grammar.specs.Typing.{typeOf}
 use Rattle.grammar.specs.declared.values.«Type».{«Type» as Kind}
 use Rattle.grammar.specs.declared.values.«Type».the-variants as Kind
 use Rattle.grammar.specs.declared.typing.Typed.the-variants.{Known}
-use Rattle.graph_tables.specs.Words.{Words, variableCount, clockCount, locationCount, actionCount, processCount, transitionCount, kindAt, kindsOf, valueAt, placeAt, invariantCount, actionKind, resetCount, effectCount, resetAt, effectVar, effectLength, keyOf, guardLength, limitCount, preOf, actionOf, postOf, clockOf, lowerOf, upperOf, limitRange, guardItems, effectItems, epsilon}
+use Rattle.graph_tables.specs.Sizes.{processRoom, locationRoom, actionRoom, transitionRoom, variableRoom, clockRoom, limitRoom, effectRoom, resetRoom, drawRoom, messageRoom, itemRoom, word32, plainKind, sendKind, receiveKind}
+use Rattle.graph_tables.specs.Words.{Words, variableCount, clockCount, locationCount, actionCount, processCount, transitionCount, kindAt, kindsOf, valueAt, placeAt, invariantCount, actionKind, resetCount, effectCount, resetAt, effectVar, effectLength, keyOf, guardLength, limitCount, preOf, actionOf, postOf, clockOf, lowerOf, upperOf, limitRange, guardItems, effectItems, epsilon, invariantGroup}
 use Rattle.graph_tables.specs.Formed.{effectDraws}
 
 -- no count is above its size
 pub record Counted (t : List ℕ) : Type 0 where
-  pub variables : variableCount t ≤ 16
-  pub clocks : clockCount t ≤ 8
-  pub locations : locationCount t ≤ 32
-  pub actions : actionCount t ≤ 32
-  pub processes : processCount t ≤ 4
-  pub transitions : transitionCount t ≤ 128
+  pub variables : variableCount t ≤ variableRoom
+  pub clocks : clockCount t ≤ clockRoom
+  pub locations : locationCount t ≤ locationRoom
+  pub actions : actionCount t ≤ actionRoom
+  pub processes : processCount t ≤ processRoom
+  pub transitions : transitionCount t ≤ transitionRoom
 
 -- variable v
 pub record VariableSound (t : List ℕ) (v : ℕ) : Type 0 where
   -- its kind is 0 or 1
   pub kind : kindAt t v < 2
   -- its value has 32 bits
-  pub fits : valueAt t v < 4294967296
+  pub fits : valueAt t v < word32
   -- a boolean is 0 or 1
   pub truth : kindAt t v ≡ 0 → valueAt t v < 2
 
 -- the times of a limit's bounds fit
 abbrev pub BoundsFit : List ℕ → ℕ → ℕ → Type 0
-BoundsFit t g i = (lowerOf t g i / 4 < 4294967296) × (upperOf t g i / 4 < 4294967296)
+BoundsFit t g i = (lowerOf t g i / 4 < word32) × (upperOf t g i / 4 < word32)
 
 -- the n limits of group g
 pub record LimitsSound (t : List ℕ) (g n : ℕ) : Type 0 where
   -- there is room for them
-  pub few : n ≤ 8
+  pub few : n ≤ limitRoom
   -- each is of a known clock
   pub clock : (i : ℕ) → i < n → clockOf t g i < clockCount t
   -- the times of its bounds fit
@@ -52,12 +53,12 @@ pub record ProcessSound (t : List ℕ) (p : ℕ) : Type 0 where
   -- it starts at a known location
   pub place : placeAt t p < locationCount t
   -- whose invariants contain time 0
-  pub zero-inside : (i : ℕ) → i < invariantCount t (placeAt t p) → inRange (limitRange t (128 + placeAt t p) i) 0 ≡ true
+  pub zero-inside : (i : ℕ) → i < invariantCount t (placeAt t p) → inRange (limitRange t (invariantGroup (placeAt t p)) i) 0 ≡ true
 
 -- the resets of action a
 pub record ResetsSound (t : List ℕ) (a : ℕ) : Type 0 where
   -- there is room for them
-  pub few : resetCount t a ≤ 16
+  pub few : resetCount t a ≤ resetRoom
   -- each is of a known clock
   pub clock : (i : ℕ) → i < resetCount t a → resetAt t a i < clockCount t
   -- they stand in order
@@ -66,7 +67,7 @@ pub record ResetsSound (t : List ℕ) (a : ℕ) : Type 0 where
 -- expression e of action a: of an effect, or of a message that is sent
 pub record ExpressionSound (t : List ℕ) (a e : ℕ) : Type 0 where
   -- there is room for its items
-  pub short : effectLength t a e ≤ 64
+  pub short : effectLength t a e ≤ itemRoom
   -- it has a kind
   pub kind : Kind
   pub typed : typeOf (kindsOf t) (effectItems t a e) ≡ Known kind
@@ -85,45 +86,45 @@ pub record PlainSound (t : List ℕ) (a : ℕ) : Type 0 where
   -- each effect is typed as its variable
   pub effect : (e : ℕ) → e < effectCount t a → EffectSound t a e
   -- a word has a bit for each draw
-  pub draws : sumBelow (effectCount t a) (effectDraws t a) ≤ 64
+  pub draws : sumBelow (effectCount t a) (effectDraws t a) ≤ drawRoom
 
 -- send a
 pub record SendSound (t : List ℕ) (a : ℕ) : Type 0 where
   -- it resets nothing
   pub still : resetCount t a ≡ 0
   -- a message has room for its values
-  pub few : effectCount t a ≤ 4
+  pub few : effectCount t a ≤ messageRoom
   -- each expression is typed
   pub expression : (e : ℕ) → e < effectCount t a → ExpressionSound t a e
   -- a word has a bit for each draw
-  pub draws : sumBelow (effectCount t a) (effectDraws t a) ≤ 64
+  pub draws : sumBelow (effectCount t a) (effectDraws t a) ≤ drawRoom
 
 -- receive a
 pub record ReceiveSound (t : List ℕ) (a : ℕ) : Type 0 where
   -- it resets nothing
   pub still : resetCount t a ≡ 0
   -- a message has room for its values
-  pub few : effectCount t a ≤ 4
+  pub few : effectCount t a ≤ messageRoom
   -- each value goes to a known variable
   pub var : (e : ℕ) → e < effectCount t a → effectVar t a e < variableCount t
 
 -- action a
 pub record ActionSound (t : List ℕ) (a : ℕ) : Type 0 where
-  -- its kind is 0, 1 or 2
-  pub kind : actionKind t a < 3
+  -- its kind is one of the three
+  pub kind : actionKind t a ≤ receiveKind
   -- its resets are sound, whatever its kind
   pub resets : ResetsSound t a
   -- there is room for its effects, or for the values of its message
-  pub few : effectCount t a ≤ 16
+  pub few : effectCount t a ≤ effectRoom
   -- and what its kind says
-  pub plain : actionKind t a ≡ 0 → PlainSound t a
-  pub send : actionKind t a ≡ 1 → SendSound t a
-  pub receive : actionKind t a ≡ 2 → ReceiveSound t a
+  pub plain : actionKind t a ≡ plainKind → PlainSound t a
+  pub send : actionKind t a ≡ sendKind → SendSound t a
+  pub receive : actionKind t a ≡ receiveKind → ReceiveSound t a
 
 -- the guard of transition k, which has no items where there is none
 pub record GuardSound (t : List ℕ) (k : ℕ) : Type 0 where
   -- there is room for its items
-  pub short : guardLength t k ≤ 64
+  pub short : guardLength t k ≤ itemRoom
   -- a guard is a boolean
   pub typed : 0 < guardLength t k → typeOf (kindsOf t) (guardItems t k) ≡ Known Kind.Boolean
   -- it draws nothing
@@ -150,7 +151,7 @@ pub record Sound (t : List ℕ) : Type 0 where
   pub counts : Counted t
   -- each part below its count is sound
   pub variable : (v : ℕ) → v < variableCount t → VariableSound t v
-  pub invariants : (l : ℕ) → l < locationCount t → LimitsSound t (128 + l) (invariantCount t l)
+  pub invariants : (l : ℕ) → l < locationCount t → LimitsSound t (invariantGroup l) (invariantCount t l)
   pub process : (p : ℕ) → p < processCount t → ProcessSound t p
   pub action : (a : ℕ) → a < actionCount t → ActionSound t a
   pub transition : (k : ℕ) → k < transitionCount t → TransitionSound t k

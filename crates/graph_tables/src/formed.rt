@@ -1,16 +1,17 @@
 // The test behind refusal 32: whether a table that is handed in is well formed. Its cost goes by what is used: no unused
 // row or word is read.
 use crate::inner;
+use crate::inner::tests;
+use crate::layout;
 use crate::sizes;
-use grammar::draws;
 use grammar::typing;
-use grammar::typing::Typed;
 ghost use mathlib.Core.Path.{_≡_};
 ghost use mathlib.Core.Bool.{true};
 ghost use Prim.Native.Nat.{_≤_, _<_};
 ghost use Rattle.laws.specs.Below.{allBelow};
+ghost use Rattle.graph_tables.specs.Sizes.{processRoom, locationRoom, actionRoom, transitionRoom, variableRoom, limitRoom, groupRoom, effectRoom, resetRoom};
 ghost use Rattle.graph_tables.specs.Words.{Words, variableCount, locationCount};
-ghost use Rattle.graph_tables.specs.Formed.{countsFormed, variableFormed, boundFormed, clockBefore, limitFormed, limitsFormed, locationFormed, processFormed, resetBefore, resetFormed, resetsFormed, isTyped, typedAs, effectFormed, plainFormed, expressionFormed, sendFormed, targetFormed, receiveFormed, actionFormed, keyFormed, keyBefore, guardFormed, transitionFormed, partsFormed, startedOf, wellFormed};
+ghost use Rattle.graph_tables.specs.Formed.{countsFormed, variableFormed, boundFormed, clockBefore, limitFormed, limitsFormed, locationFormed, processFormed, resetBefore, resetFormed, resetsFormed, effectFormed, plainFormed, expressionFormed, sendFormed, targetFormed, receiveFormed, actionFormed, keyFormed, keyBefore, guardFormed, transitionFormed, partsFormed, startedOf, wellFormed};
 ghost use Rattle.graph_tables.specs.Sound.{Counted};
 
 fn counts_formed(t: &[u64]) -> bool
@@ -36,7 +37,7 @@ fn counts_formed(t: &[u64]) -> bool
 }
 
 fn variable_formed(t: &[u64], v: usize) -> bool
-    requires { ⌜ Words (now t) × (v < 16) ⌝ }
+    requires { ⌜ Words (now t) × (v < variableRoom) ⌝ }
     ensures { λ r. ⌜ r ≡ variableFormed (now (t .entry)) v ⌝ }
 {
     let kind = inner::kind_at(t, v);
@@ -47,7 +48,7 @@ fn variable_formed(t: &[u64], v: usize) -> bool
     if kind != 1 {
         return false;
     }
-    value < 4294967296
+    value < layout::WORD32
 }
 
 fn bound_formed(w: u64) -> bool
@@ -63,11 +64,11 @@ fn bound_formed(w: u64) -> bool
     if kind == 3 {
         return false;
     }
-    w / 4 < 4294967296
+    w / 4 < layout::WORD32
 }
 
 fn clock_before(t: &[u64], g: usize, i: usize) -> usize
-    requires { ⌜ Words (now t) × (g < 160) × (i < 8) ⌝ }
+    requires { ⌜ Words (now t) × (g < groupRoom) × (i < limitRoom) ⌝ }
     ensures { λ r. ⌜ r ≡ clockBefore (now (t .entry)) g i ⌝ }
 {
     if i == 0 {
@@ -77,7 +78,7 @@ fn clock_before(t: &[u64], g: usize, i: usize) -> usize
 }
 
 fn limit_formed(t: &[u64], g: usize, i: usize) -> bool
-    requires { ⌜ Words (now t) × (g < 160) × (i < 8) ⌝ }
+    requires { ⌜ Words (now t) × (g < groupRoom) × (i < limitRoom) ⌝ }
     ensures { λ r. ⌜ r ≡ limitFormed (now (t .entry)) g i ⌝ }
 {
     let clock = inner::clock_of(t, g, i);
@@ -94,7 +95,7 @@ fn limit_formed(t: &[u64], g: usize, i: usize) -> bool
 }
 
 fn all_limits_formed(t: &[u64], g: usize, n: usize) -> bool
-    requires { ⌜ Words (now t) × (g < 160) × (n ≤ 8) ⌝ }
+    requires { ⌜ Words (now t) × (g < groupRoom) × (n ≤ limitRoom) ⌝ }
     ensures { λ r. ⌜ r ≡ allBelow n (limitFormed (now (t .entry)) g) ⌝ }
 {
     for i in 0..n {
@@ -106,7 +107,7 @@ fn all_limits_formed(t: &[u64], g: usize, n: usize) -> bool
 }
 
 fn limits_formed(t: &[u64], g: usize, n: usize) -> bool
-    requires { ⌜ Words (now t) × (g < 160) ⌝ }
+    requires { ⌜ Words (now t) × (g < groupRoom) ⌝ }
     ensures { λ r. ⌜ r ≡ limitsFormed (now (t .entry)) g n ⌝ }
 {
     if sizes::LIMITS < n {
@@ -116,25 +117,25 @@ fn limits_formed(t: &[u64], g: usize, n: usize) -> bool
 }
 
 fn location_formed(t: &[u64], l: usize) -> bool
-    requires { ⌜ Words (now t) × (l < 32) ⌝ }
+    requires { ⌜ Words (now t) × (l < locationRoom) ⌝ }
     ensures { λ r. ⌜ r ≡ locationFormed (now (t .entry)) l ⌝ }
 {
-    limits_formed(t, 128 + l, inner::invariant_count(t, l))
+    limits_formed(t, inner::invariant_group(l), inner::invariant_count(t, l))
 }
 
 fn process_formed(t: &[u64], p: usize) -> bool
-    requires { ⌜ Words (now t) × (p < 4) × (locationCount (now t) ≤ 32) × (allBelow (locationCount (now t)) (locationFormed (now t)) ≡ true) ⌝ }
+    requires { ⌜ Words (now t) × (p < processRoom) × (locationCount (now t) ≤ locationRoom) × (allBelow (locationCount (now t)) (locationFormed (now t)) ≡ true) ⌝ }
     ensures { λ r. ⌜ r ≡ processFormed (now (t .entry)) p ⌝ }
 {
     let l = inner::place_at(t, p);
     if inner::location_count(t) <= l {
         return false;
     }
-    inner::all_zero_inside(t, 128 + l, inner::invariant_count(t, l))
+    tests::all_zero_inside(t, inner::invariant_group(l), inner::invariant_count(t, l))
 }
 
 fn reset_before(t: &[u64], a: usize, i: usize) -> usize
-    requires { ⌜ Words (now t) × (a < 32) × (i < 16) ⌝ }
+    requires { ⌜ Words (now t) × (a < actionRoom) × (i < resetRoom) ⌝ }
     ensures { λ r. ⌜ r ≡ resetBefore (now (t .entry)) a i ⌝ }
 {
     if i == 0 {
@@ -144,7 +145,7 @@ fn reset_before(t: &[u64], a: usize, i: usize) -> usize
 }
 
 fn reset_formed(t: &[u64], a: usize, i: usize) -> bool
-    requires { ⌜ Words (now t) × (a < 32) × (i < 16) ⌝ }
+    requires { ⌜ Words (now t) × (a < actionRoom) × (i < resetRoom) ⌝ }
     ensures { λ r. ⌜ r ≡ resetFormed (now (t .entry)) a i ⌝ }
 {
     let clock = inner::reset_at(t, a, i);
@@ -155,7 +156,7 @@ fn reset_formed(t: &[u64], a: usize, i: usize) -> bool
 }
 
 fn all_resets_formed(t: &[u64], a: usize, n: usize) -> bool
-    requires { ⌜ Words (now t) × (a < 32) × (n ≤ 16) ⌝ }
+    requires { ⌜ Words (now t) × (a < actionRoom) × (n ≤ resetRoom) ⌝ }
     ensures { λ r. ⌜ r ≡ allBelow n (resetFormed (now (t .entry)) a) ⌝ }
 {
     for i in 0..n {
@@ -167,7 +168,7 @@ fn all_resets_formed(t: &[u64], a: usize, n: usize) -> bool
 }
 
 fn resets_formed(t: &[u64], a: usize) -> bool
-    requires { ⌜ Words (now t) × (a < 32) ⌝ }
+    requires { ⌜ Words (now t) × (a < actionRoom) ⌝ }
     ensures { λ r. ⌜ r ≡ resetsFormed (now (t .entry)) a ⌝ }
 {
     let n = inner::reset_count(t, a);
@@ -177,30 +178,8 @@ fn resets_formed(t: &[u64], a: usize) -> bool
     all_resets_formed(t, a, n)
 }
 
-fn is_typed(typed: Typed) -> bool
-    ensures { λ r. ⌜ r ≡ isTyped typed ⌝ }
-{
-    match typed {
-        Typed::Known(_) => true,
-        Typed::IllTyped => false,
-        Typed::TableFull => false,
-        Typed::TooDeep(_) => false,
-    }
-}
-
-fn typed_as(w: u64, typed: Typed) -> bool
-    ensures { λ r. ⌜ r ≡ typedAs w typed ⌝ }
-{
-    match typed {
-        Typed::Known(k) => k.word() == w,
-        Typed::IllTyped => false,
-        Typed::TableFull => false,
-        Typed::TooDeep(_) => false,
-    }
-}
-
 fn effect_formed(t: &[u64], a: usize, e: usize) -> bool
-    requires { ⌜ Words (now t) × (variableCount (now t) ≤ 16) × (a < 32) × (e < 16) ⌝ }
+    requires { ⌜ Words (now t) × (variableCount (now t) ≤ variableRoom) × (a < actionRoom) × (e < effectRoom) ⌝ }
     ensures { λ r. ⌜ r ≡ effectFormed (now (t .entry)) a e ⌝ }
 {
     let v = inner::effect_var(t, a, e);
@@ -210,14 +189,12 @@ fn effect_formed(t: &[u64], a: usize, e: usize) -> bool
     if sizes::ITEMS < inner::effect_length(t, a, e) {
         return false;
     }
-    typed_as(
-        inner::kind_at(t, v),
-        typing::type_of(inner::effect_items(t, a, e), inner::kinds_of(t)),
-    )
+    let wanted = inner::kind_at(t, v);
+    typing::type_of(inner::effect_items(t, a, e), inner::kinds_of(t)).typed_as(wanted)
 }
 
 fn all_effects_formed(t: &[u64], a: usize, n: usize) -> bool
-    requires { ⌜ Words (now t) × (variableCount (now t) ≤ 16) × (a < 32) × (n ≤ 16) ⌝ }
+    requires { ⌜ Words (now t) × (variableCount (now t) ≤ variableRoom) × (a < actionRoom) × (n ≤ effectRoom) ⌝ }
     ensures { λ r. ⌜ r ≡ allBelow n (effectFormed (now (t .entry)) a) ⌝ }
 {
     for i in 0..n {
@@ -229,7 +206,7 @@ fn all_effects_formed(t: &[u64], a: usize, n: usize) -> bool
 }
 
 fn plain_formed(t: &[u64], a: usize) -> bool
-    requires { ⌜ Words (now t) × (variableCount (now t) ≤ 16) × (a < 32) ⌝ }
+    requires { ⌜ Words (now t) × (variableCount (now t) ≤ variableRoom) × (a < actionRoom) ⌝ }
     ensures { λ r. ⌜ r ≡ plainFormed (now (t .entry)) a ⌝ }
 {
     if !resets_formed(t, a) {
@@ -242,21 +219,21 @@ fn plain_formed(t: &[u64], a: usize) -> bool
     if !all_effects_formed(t, a, n) {
         return false;
     }
-    inner::all_draws(t, a, n) <= sizes::DRAWS
+    tests::all_draws(t, a, n) <= sizes::DRAWS
 }
 
 fn expression_formed(t: &[u64], a: usize, e: usize) -> bool
-    requires { ⌜ Words (now t) × (variableCount (now t) ≤ 16) × (a < 32) × (e < 16) ⌝ }
+    requires { ⌜ Words (now t) × (variableCount (now t) ≤ variableRoom) × (a < actionRoom) × (e < effectRoom) ⌝ }
     ensures { λ r. ⌜ r ≡ expressionFormed (now (t .entry)) a e ⌝ }
 {
     if sizes::ITEMS < inner::effect_length(t, a, e) {
         return false;
     }
-    is_typed(typing::type_of(inner::effect_items(t, a, e), inner::kinds_of(t)))
+    typing::type_of(inner::effect_items(t, a, e), inner::kinds_of(t)).is_typed()
 }
 
 fn all_expressions_formed(t: &[u64], a: usize, n: usize) -> bool
-    requires { ⌜ Words (now t) × (variableCount (now t) ≤ 16) × (a < 32) × (n ≤ 16) ⌝ }
+    requires { ⌜ Words (now t) × (variableCount (now t) ≤ variableRoom) × (a < actionRoom) × (n ≤ effectRoom) ⌝ }
     ensures { λ r. ⌜ r ≡ allBelow n (expressionFormed (now (t .entry)) a) ⌝ }
 {
     for i in 0..n {
@@ -268,7 +245,7 @@ fn all_expressions_formed(t: &[u64], a: usize, n: usize) -> bool
 }
 
 fn send_formed(t: &[u64], a: usize) -> bool
-    requires { ⌜ Words (now t) × (variableCount (now t) ≤ 16) × (a < 32) ⌝ }
+    requires { ⌜ Words (now t) × (variableCount (now t) ≤ variableRoom) × (a < actionRoom) ⌝ }
     ensures { λ r. ⌜ r ≡ sendFormed (now (t .entry)) a ⌝ }
 {
     if inner::reset_count(t, a) != 0 {
@@ -281,18 +258,18 @@ fn send_formed(t: &[u64], a: usize) -> bool
     if !all_expressions_formed(t, a, n) {
         return false;
     }
-    inner::all_draws(t, a, n) <= sizes::DRAWS
+    tests::all_draws(t, a, n) <= sizes::DRAWS
 }
 
 fn target_formed(t: &[u64], a: usize, e: usize) -> bool
-    requires { ⌜ Words (now t) × (a < 32) × (e < 16) ⌝ }
+    requires { ⌜ Words (now t) × (a < actionRoom) × (e < effectRoom) ⌝ }
     ensures { λ r. ⌜ r ≡ targetFormed (now (t .entry)) a e ⌝ }
 {
     inner::effect_var(t, a, e) < inner::variable_count(t)
 }
 
 fn all_targets_formed(t: &[u64], a: usize, n: usize) -> bool
-    requires { ⌜ Words (now t) × (a < 32) × (n ≤ 16) ⌝ }
+    requires { ⌜ Words (now t) × (a < actionRoom) × (n ≤ effectRoom) ⌝ }
     ensures { λ r. ⌜ r ≡ allBelow n (targetFormed (now (t .entry)) a) ⌝ }
 {
     for i in 0..n {
@@ -304,7 +281,7 @@ fn all_targets_formed(t: &[u64], a: usize, n: usize) -> bool
 }
 
 fn receive_formed(t: &[u64], a: usize) -> bool
-    requires { ⌜ Words (now t) × (a < 32) ⌝ }
+    requires { ⌜ Words (now t) × (a < actionRoom) ⌝ }
     ensures { λ r. ⌜ r ≡ receiveFormed (now (t .entry)) a ⌝ }
 {
     if inner::reset_count(t, a) != 0 {
@@ -318,17 +295,17 @@ fn receive_formed(t: &[u64], a: usize) -> bool
 }
 
 fn action_formed(t: &[u64], a: usize) -> bool
-    requires { ⌜ Words (now t) × (variableCount (now t) ≤ 16) × (a < 32) ⌝ }
+    requires { ⌜ Words (now t) × (variableCount (now t) ≤ variableRoom) × (a < actionRoom) ⌝ }
     ensures { λ r. ⌜ r ≡ actionFormed (now (t .entry)) a ⌝ }
 {
     let kind = inner::action_kind(t, a);
-    if kind == 0 {
+    if kind == layout::PLAIN {
         return plain_formed(t, a);
     }
-    if kind == 1 {
+    if kind == layout::SEND {
         return send_formed(t, a);
     }
-    if kind != 2 {
+    if kind != layout::RECEIVE {
         return false;
     }
     receive_formed(t, a)
@@ -339,17 +316,17 @@ fn key_formed(t: &[u64], key: u64) -> bool
     ensures { λ r. ⌜ r ≡ keyFormed (now (t .entry)) key ⌝ }
 {
     let n = inner::location_count(t);
-    if n <= (key / 137438953472) as usize {
+    if n <= inner::pre_of(key) {
         return false;
     }
-    if n <= (key % 32) as usize {
+    if n <= inner::post_of(key) {
         return false;
     }
-    inner::action_known(t, key / 32 % 4294967296)
+    tests::action_known(t, inner::action_of(key))
 }
 
 fn key_before(t: &[u64], k: usize) -> u64
-    requires { ⌜ Words (now t) × (k < 128) ⌝ }
+    requires { ⌜ Words (now t) × (k < transitionRoom) ⌝ }
     ensures { λ r. ⌜ r ≡ keyBefore (now (t .entry)) k ⌝ }
 {
     if k == 0 {
@@ -359,7 +336,7 @@ fn key_before(t: &[u64], k: usize) -> u64
 }
 
 fn guard_formed(t: &[u64], k: usize) -> bool
-    requires { ⌜ Words (now t) × (variableCount (now t) ≤ 16) × (k < 128) ⌝ }
+    requires { ⌜ Words (now t) × (variableCount (now t) ≤ variableRoom) × (k < transitionRoom) ⌝ }
     ensures { λ r. ⌜ r ≡ guardFormed (now (t .entry)) k ⌝ }
 {
     let n = inner::guard_length(t, k);
@@ -370,14 +347,16 @@ fn guard_formed(t: &[u64], k: usize) -> bool
         return false;
     }
     let items = inner::guard_items(t, k);
-    if !typed_as(0, typing::type_of(items, inner::kinds_of(t))) {
+    let judged = typing::judge(items, inner::kinds_of(t));
+    let typed = judged.typed;
+    if !typed.typed_as(0) {
         return false;
     }
-    draws::count_draws(items) == 0
+    judged.draws == 0
 }
 
 fn transition_formed(t: &[u64], k: usize) -> bool
-    requires { ⌜ Words (now t) × (variableCount (now t) ≤ 16) × (k < 128) ⌝ }
+    requires { ⌜ Words (now t) × (variableCount (now t) ≤ variableRoom) × (k < transitionRoom) ⌝ }
     ensures { λ r. ⌜ r ≡ transitionFormed (now (t .entry)) k ⌝ }
 {
     let key = inner::key_of(t, k);
@@ -394,7 +373,7 @@ fn transition_formed(t: &[u64], k: usize) -> bool
 }
 
 fn all_variables_formed(t: &[u64], n: usize) -> bool
-    requires { ⌜ Words (now t) × (n ≤ 16) ⌝ }
+    requires { ⌜ Words (now t) × (n ≤ variableRoom) ⌝ }
     ensures { λ r. ⌜ r ≡ allBelow n (variableFormed (now (t .entry))) ⌝ }
 {
     for i in 0..n {
@@ -406,7 +385,7 @@ fn all_variables_formed(t: &[u64], n: usize) -> bool
 }
 
 fn all_locations_formed(t: &[u64], n: usize) -> bool
-    requires { ⌜ Words (now t) × (n ≤ 32) ⌝ }
+    requires { ⌜ Words (now t) × (n ≤ locationRoom) ⌝ }
     ensures { λ r. ⌜ r ≡ allBelow n (locationFormed (now (t .entry))) ⌝ }
 {
     for i in 0..n {
@@ -418,7 +397,7 @@ fn all_locations_formed(t: &[u64], n: usize) -> bool
 }
 
 fn all_processes_formed(t: &[u64], n: usize) -> bool
-    requires { ⌜ Words (now t) × (n ≤ 4) × (locationCount (now t) ≤ 32) × (allBelow (locationCount (now t)) (locationFormed (now t)) ≡ true) ⌝ }
+    requires { ⌜ Words (now t) × (n ≤ processRoom) × (locationCount (now t) ≤ locationRoom) × (allBelow (locationCount (now t)) (locationFormed (now t)) ≡ true) ⌝ }
     ensures { λ r. ⌜ r ≡ allBelow n (processFormed (now (t .entry))) ⌝ }
 {
     for i in 0..n {
@@ -430,7 +409,7 @@ fn all_processes_formed(t: &[u64], n: usize) -> bool
 }
 
 fn all_actions_formed(t: &[u64], n: usize) -> bool
-    requires { ⌜ Words (now t) × (variableCount (now t) ≤ 16) × (n ≤ 32) ⌝ }
+    requires { ⌜ Words (now t) × (variableCount (now t) ≤ variableRoom) × (n ≤ actionRoom) ⌝ }
     ensures { λ r. ⌜ r ≡ allBelow n (actionFormed (now (t .entry))) ⌝ }
 {
     for i in 0..n {
@@ -442,7 +421,7 @@ fn all_actions_formed(t: &[u64], n: usize) -> bool
 }
 
 fn all_transitions_formed(t: &[u64], n: usize) -> bool
-    requires { ⌜ Words (now t) × (variableCount (now t) ≤ 16) × (n ≤ 128) ⌝ }
+    requires { ⌜ Words (now t) × (variableCount (now t) ≤ variableRoom) × (n ≤ transitionRoom) ⌝ }
     ensures { λ r. ⌜ r ≡ allBelow n (transitionFormed (now (t .entry))) ⌝ }
 {
     for i in 0..n {

@@ -1,6 +1,7 @@
 // Lists that are handed to calls, each with its count, which may be above what there is room for.
 use crate::ids::Clock;
 use crate::ids::Var;
+use crate::sizes;
 use grammar::values::Slot;
 use time::Bound;
 use time::TimeRange;
@@ -14,7 +15,7 @@ pub struct Limit {
 }
 
 pub struct Limits {
-    pub limits: [Limit; 8],
+    pub limits: [Limit; sizes::LIMITS],
     pub count: usize,
 }
 
@@ -27,19 +28,19 @@ impl Limits {
             range: TimeRange::new(Bound::Included(0), Bound::Included(0)),
         };
         Limits {
-            limits: [blank; 8],
+            limits: [blank; sizes::LIMITS],
             count: 0,
         }
     }
 }
 
 pub struct Vars {
-    pub vars: [Var; 4],
+    pub vars: [Var; sizes::MESSAGE],
     pub count: usize,
 }
 
 // The values of a message.
 pub struct Message {
-    pub values: [Slot; 4],
+    pub values: [Slot; sizes::MESSAGE],
     pub count: usize,
 }

@@ -5,5 +5,7 @@ pub mod formed;
 pub mod handed;
 pub mod ids;
 pub mod inner;
+pub mod layout;
 pub mod refusals;
+pub mod runs;
 pub mod sizes;

@@ -3,3 +3,4 @@ pub mod BelowLaws
 pub mod Tests
 pub mod Each
 pub mod Lists
+pub mod Copies

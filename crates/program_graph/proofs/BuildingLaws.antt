@@ -1,24 +1,19 @@
 -- Laws for calls that build.
-use Prim.Native.Nat.{ℕ, _+_, _<_}
+use Prim.Native.Nat.{ℕ}
 use mathlib.Core.Path.{_≡_, refl, sym, ap, _∙_}
 use mathlib.Core.Bool.{Bool, true}
 use mathlib.Core.List.{List}
-use lib.Dec.{ltb}
-use borrow.Author.Tests.{eqb-true, ltb-true}
-use Rattle.laws.specs.Below.{allBelow}
-use Rattle.laws.proofs.Ladder.{rung}
+use borrow.Author.Tests.{eqb-true}
 use Rattle.laws.proofs.BelowLaws.{and-first, and-rest}
-use Rattle.graph_tables.specs.Words.{Words, locationCount, processCount, invariantCount}
-use Rattle.graph_tables.specs.Formed.{wellFormed, zeroInside}
+use Rattle.graph_tables.specs.Words.{Words}
+use Rattle.graph_tables.specs.Formed.{wellFormed}
 use Rattle.graph_tables.specs.Sound.{Counted}
 use Rattle.graph_tables.proofs.FormedLaws.{counted}
 use Rattle.graph_tables.specs.declared.refusals.Refusal.{Refusal}
-use Rattle.graph_tables.specs.declared.refusals.Refusal.the-variants.{BadState, TableFull, MissingLocation, Invariant}
 use Rattle.graph_tables.specs.declared.answers.Placed.{Placed}
-use Rattle.graph_edits.specs.Edits.{withProcess}
 use Rattle.graph_tables.specs.declared.answers.Done.{Done}
 use Rattle.graph_tables.specs.declared.answers.Done.the-variants as Done
-use Rattle.program_graph.specs.Building.{Outcome, refusedWith, placedAt, notDone, doneWith, onFormed, withRoom, doneIf, placedIf, newProcessOf}
+use Rattle.program_graph.specs.Building.{Outcome, refusedWith, placedAt, notDone, doneWith, doneIf, placedIf}
 
 -- an answer and a table that are one outcome's
 pub parts : {A : Type 0} {o p : Outcome A} → o ≡ p → (o .answer ≡ p .answer) × (o .table ≡ p .table)
@@ -33,24 +28,6 @@ done-if P (Done.Refused r) t u h k = h r
 pub placed-if : (P : Outcome Placed → Type 0) (c : Done) (t : List ℕ) (n : ℕ) (u : List ℕ) → ((r : Refusal) → P (refusedWith r t)) → (c ≡ Done.Accepted → P (placedAt n u)) → P (placedIf c t n u)
 placed-if P Done.Accepted t n u h k = k refl
 placed-if P (Done.Refused r) t n u h k = h r
-
--- a part more, where there is room for it
-pub part-if : (P : Outcome Placed → Type 0) (t : List ℕ) (n size : ℕ) (u : List ℕ) → ((r : Refusal) → P (refusedWith r t)) → (n < size → P (placedAt n u))
-    → P (onFormed t (withRoom n size t u))
-part-if P t n size u h k =
-    rung P (wellFormed t true) _ _ (h BadState) (λ e. rung P (ltb n size) _ _ (h TableFull) (λ l. k (ltb-true n size l)))
-
--- a process more
-pub process-if : (P : Outcome Done → Type 0) (t : List ℕ) (l : ℕ) → ((r : Refusal) → P (notDone r t))
-    → (l < locationCount t → allBelow (invariantCount t l) (zeroInside t (128 + l)) ≡ true → processCount t < 4 → P (doneWith (withProcess t l)))
-    → P (newProcessOf t l)
-unfolding newProcessOf
-process-if P t l h k =
-    rung P (wellFormed t true) _ _ (h BadState) (λ e.
-    rung P (ltb l (locationCount t)) _ _ (h MissingLocation) (λ known.
-    rung P (allBelow (invariantCount t l) (zeroInside t (128 + l))) _ _ (h Invariant) (λ inside.
-    rung P (ltb (processCount t) 4) _ _ (h TableFull) (λ room.
-    k (ltb-true _ _ known) inside (ltb-true _ _ room)))))
 
 -- ---- calls that ask a check first
 pub done-refused : {c : Done} {r : Refusal} (t after : List ℕ) → c ≡ Done.Refused r → notDone r t ≡ doneIf c t after

@@ -1,29 +1,26 @@
 -- What was in a table keeps its meaning, whatever a building call answers.
-use Prim.Native.Nat.{ℕ, _<_}
+use Prim.Native.Nat.{ℕ}
 use mathlib.Core.Path.{_≡_}
 use mathlib.Core.Bool.{true}
 use mathlib.Core.List.{List}
-use Rattle.graph_tables.specs.Words.{variableCount, clockCount, actionCount}
+use Rattle.graph_tables.specs.Sizes.{plainKind}
+use Rattle.graph_tables.specs.Words.{keyWith}
 use Rattle.graph_tables.specs.Formed.{wellFormed}
 use Rattle.graph_tables.proofs.KeptLaws.{apart}
-use Rattle.graph_edits.specs.Edits.{keyWith}
 use Rattle.graph_edits.specs.Lists.{Grows, nothing, Kept}
 use Rattle.graph_edits.proofs.PartsKept.{kept-same, var-keeps, clock-keeps, process-keeps, action-keeps, send-keeps, receive-keeps, location-keeps, initial-keeps, reset-keeps, effect-keeps, transition-keeps}
 use Rattle.graph_tables.specs.declared.answers.Placed.{Placed}
 use Rattle.graph_tables.specs.declared.answers.Done.{Done}
 use Rattle.graph_tables.specs.declared.answers.Done.the-variants.{Accepted}
-use Rattle.graph_checks.specs.Checks.{resetCheck, effectCheck, sendCheck, receiveCheck, locationCheck, initialCheck, transitionCheck}
-use Rattle.program_graph.specs.Building.{Outcome, onFormed, withRoom, doneIf, placedIf, newVarOf, newClockOf, newActionOf, addResetOf, addEffectOf, newSendOf, newReceiveOf, newTimedLocationOf, newInitialOf, guardOf, addTransitionOf}
+use Rattle.graph_checks.specs.Checks.{varCheck, clockCheck, actionCheck, processCheck, resetCheck, effectCheck, sendCheck, receiveCheck, locationCheck, initialCheck, transitionCheck}
+use Rattle.program_graph.specs.Building.{Outcome, doneIf, placedIf, newVarOf, newClockOf, newActionOf, newProcessOf, addResetOf, addEffectOf, newSendOf, newReceiveOf, newTimedLocationOf, newInitialOf, guardOf, addTransitionOf}
 use Rattle.program_graph.specs.Chains.{Call, new-var, new-clock, new-action, new-process, add-reset, add-effect, new-send, new-receive, new-timed-location, new-initial-location, add-transition, after, grows}
-use Rattle.program_graph.proofs.BuildingLaws.{done-if, placed-if, part-if, process-if}
-use Rattle.program_graph.proofs.KeepLaws.{guard-fits}
+use Rattle.program_graph.proofs.BuildingLaws.{done-if, placed-if}
+use Rattle.program_graph.proofs.FormedCalls.{guard-fits}
 use Rattle.graph_checks.proofs.ReadyActions.{reset-ready, effect-ready, send-ready, receive-ready}
-use Rattle.graph_checks.proofs.ReadyParts.{location-ready, initial-ready, transition-ready}
+use Rattle.graph_checks.proofs.ReadyParts.{var-ready, action-ready, process-ready, location-ready, initial-ready, transition-ready}
 
 -- ---- what is refused leaves the table, and so keeps its parts
-part-kept : (t : List ℕ) (n size : ℕ) (u : List ℕ) → (n < size → Kept nothing t u) → Kept nothing t (onFormed t (withRoom n size t u) .table)
-part-kept t n size u k = part-if (λ (o : Outcome Placed). Kept nothing t (o .table)) t n size u (λ r. kept-same nothing t) k
-
 done-kept : (more : Grows) (c : Done) (t u : List ℕ) → (c ≡ Accepted → Kept more t u) → Kept more t (doneIf c t u .table)
 done-kept more c t u k = done-if (λ (o : Outcome Done). Kept more t (o .table)) c t u (λ r. kept-same more t) k
 
@@ -32,12 +29,11 @@ placed-kept c t n u k = placed-if (λ (o : Outcome Placed). Kept nothing t (o .t
 
 -- Every part of a well-formed table is in it after a building call, under its number, but for what grows by the call.
 pub kept : (t : List ℕ) (c : Call) → wellFormed t true ≡ true → Kept (grows c) t (after t c)
-unfolding newVarOf newClockOf newActionOf addResetOf addEffectOf newSendOf newReceiveOf newTimedLocationOf newInitialOf addTransitionOf
-kept t (new-var v) h = part-kept t (variableCount t) 16 _ (λ room. var-keeps t _ _ (apart t true h) room)
-kept t new-clock h = part-kept t (clockCount t) 8 _ (λ room. clock-keeps t (apart t true h))
-kept t new-action h = part-kept t (actionCount t) 32 _ (λ room. action-keeps t 0 0 (apart t true h) room)
-kept t (new-process l) h =
-    process-if (λ (o : Outcome Done). Kept nothing t (o .table)) t l (λ r. kept-same nothing t) (λ known inside room. process-keeps t l (apart t true h) room)
+unfolding newVarOf newClockOf newActionOf newProcessOf addResetOf addEffectOf newSendOf newReceiveOf newTimedLocationOf newInitialOf addTransitionOf
+kept t (new-var v) h = placed-kept (varCheck t) t _ _ (λ e. var-keeps t _ _ (apart t true h) (var-ready t e .1))
+kept t new-clock h = placed-kept (clockCheck t) t _ _ (λ e. clock-keeps t (apart t true h))
+kept t new-action h = placed-kept (actionCheck t) t _ _ (λ e. action-keeps t plainKind 0 (apart t true h) (action-ready t e .1))
+kept t (new-process l) h = done-kept _ (processCheck t l) t _ (λ e. process-keeps t l (apart t true h) (process-ready t l e .room))
 kept t (add-reset a clock) h =
     done-kept _ (resetCheck t a clock) t _ (λ e.
     let r = reset-ready t a clock e in

@@ -1,7 +1,7 @@
 pub mod BuildingLaws
-pub mod KeepLaws
+pub mod FormedCalls
 pub mod Stored
-pub mod Answers
+pub mod AnswerLaws
 pub mod SaidLaws
 pub mod RunLaws
 pub mod RunReady

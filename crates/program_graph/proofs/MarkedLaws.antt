@@ -13,8 +13,8 @@ use Rattle.grammar.specs.Evaluation.{valueSteps, valueOf, evaluationOf}
 use Rattle.grammar.specs.Marked.{examples as grammar-examples}
 use Rattle.grammar.proofs.Theorems.{marked as grammar-marked}
 use Rattle.graph_tables.specs.Formed.{wellFormed, countsFormed, startedOf, partsFormed, variableFormed, boundFormed, limitFormed, limitsFormed, locationFormed, zeroInside, processFormed, resetFormed, resetsFormed, effectFormed, effectDraws, plainFormed, actionFormed, actionKnown, keyFormed, guardFormed, transitionFormed}
-use Rattle.graph_edits.specs.Edits.{withLimit, withLimits, withExpression, withRow, withGroup, withGuard, transitionAt, clockKnown, clocksKnown, startsInside, allStartInside}
-use Rattle.graph_checks.specs.Checks.{_then_, limitsCheck, locationCheck, startCheck, initialCheck, plainCheck, resetRoom, resetCheck, effectRoom, assignedCheck, actionEffectCheck, knownEffectCheck, effectCheck, endsCheck, guardRoom, conditionsCheck, transitionCheck}
+use Rattle.graph_edits.specs.Edits.{withLimit, withLimits, withExpression, withRow, withGroup, withGuard, transitionAt}
+use Rattle.graph_checks.specs.Checks.{_then_, varCheck, clockCheck, actionCheck, clockKnown, clocksKnown, startsInside, allStartInside, limitsCheck, locationCheck, startCheck, initialCheck, plainCheck, roomForReset, resetCheck, roomForEffect, assignedCheck, actionEffectCheck, knownEffectCheck, effectCheck, endsCheck, guardRoom, conditionsCheck, transitionCheck}
 use Rattle.graph_steps.specs.Steps.{limitHolds, limitsHold, invariantsHold, guardHolds, passesOf, candidateOf, leadsOf, processReady, readyOf, resetBelow, effectsBelow, placedBelow, postKnown, clockFits, shiftedBelow, placeHolds}
 use Rattle.program_graph.specs.Building.{emptyOf, newVarOf, newClockOf, newActionOf, newInitialOf, newTimedLocationOf, addResetOf, addEffectOf, addTransitionOf}
 use Rattle.program_graph.specs.Running.{placeKnown, varFits, countsSame, runFormed, fitsTable, plainOf, actedOf, stepOf, transitionOf, waitedOf, waitOf, startPlaces, startVars, newRunOf, valueIn}
@@ -31,7 +31,7 @@ unfolding
     wellFormed countsFormed startedOf partsFormed variableFormed boundFormed limitFormed limitsFormed locationFormed zeroInside processFormed
     resetFormed resetsFormed effectFormed effectDraws plainFormed actionFormed actionKnown keyFormed guardFormed transitionFormed
     withLimit withLimits withExpression withRow withGroup withGuard transitionAt clockKnown clocksKnown startsInside allStartInside
-    _then_ limitsCheck locationCheck startCheck initialCheck plainCheck resetRoom resetCheck effectRoom assignedCheck actionEffectCheck
+    _then_ varCheck clockCheck actionCheck limitsCheck locationCheck startCheck initialCheck plainCheck roomForReset resetCheck roomForEffect assignedCheck actionEffectCheck
     knownEffectCheck effectCheck endsCheck guardRoom conditionsCheck transitionCheck
     limitHolds limitsHold invariantsHold guardHolds passesOf candidateOf leadsOf processReady readyOf resetBelow effectsBelow placedBelow
     postKnown clockFits shiftedBelow placeHolds

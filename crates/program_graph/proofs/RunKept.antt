@@ -28,7 +28,8 @@ use Rattle.grammar.specs.declared.evaluation.Evaluated.{Evaluated}
 use Rattle.grammar.specs.declared.evaluation.Evaluated.the-variants.{Known, NoValue}
 use Rattle.grammar.proofs.Sound.{HasKind, Of, Fit}
 use Rattle.grammar.proofs.Theorems.{typed-value}
-use Rattle.graph_tables.specs.declared.refusals.Refusal.the-variants as R
+use Rattle.graph_tables.specs.Refusals.{refusal}
+use Rattle.graph_tables.specs.declared.answers.Done.the-variants as Done
 use Rattle.graph_tables.specs.Words.{variableCount, clockCount, locationCount, actionCount, processCount, kindAt, kindsOf, valueAt, placeAt, actionKind, resetCount, effectCount, effectVar, effectItems, epsilon}
 use Rattle.graph_tables.specs.Formed.{wellFormed}
 use Rattle.graph_tables.specs.Sound.{Sound}
@@ -40,11 +41,14 @@ use Rattle.graph_steps.specs.Messages.{takenOf}
 use Rattle.graph_steps.proofs.MessageLaws.{taken-length, taken-fits}
 use Rattle.graph_tables.specs.declared.handed.Message.{Message}
 use Rattle.program_graph.specs.Facts.{Sized}
-use Rattle.program_graph.specs.declared.run.ProgramGraphRun.{ProgramGraphRun}
-use Rattle.program_graph.specs.declared.run.Stepped.{Stepped}
-use Rattle.program_graph.specs.declared.run.Sent.{Sent}
-use Rattle.program_graph.specs.Messaging.{refusedSend, saidOf, sentOf, sendOf, heardOf, receivedOf, receiveOf}
-use Rattle.program_graph.specs.Running.{refusedRun, acceptedRun, placeKnown, varFits, countsSame, runFormed, fitsTable, readyStill, movedTo, idleOf, plainOf, actedOf, stepOf, transitionOf, waitFits, waitHolds, later, waitedOf, waitOf, startPlaces, startValue, startVars, freshRun, noRun, newRunOf}
+use Rattle.program_graph.specs.declared.record.ProgramGraphRun.{ProgramGraphRun}
+use Rattle.program_graph.specs.declared.answers.Stepped.{Stepped}
+use Rattle.program_graph.specs.declared.answers.Fresh.{Fresh}
+use Rattle.program_graph.specs.declared.answers.Waited.{Waited}
+use Rattle.program_graph.specs.declared.answers.Sent.{Sent}
+use Rattle.program_graph.specs.declared.answers.Received.{Received}
+use Rattle.program_graph.specs.Messaging.{refusedSend, refusedReceive, saidOf, sentOf, sendOf, heardOf, receivedOf, receiveOf}
+use Rattle.program_graph.specs.Running.{refused, refusedWait, acceptedWait, placeKnown, varFits, countsSame, runFormed, fitsTable, readyStill, movedTo, autonomousOf, plainOf, actedOf, stepOf, transitionOf, waitFits, waitHolds, later, waitedOf, waitOf, startPlaces, startValue, startVars, freshRun, noRun, newRunOf}
 use Rattle.program_graph.proofs.RunLaws.{table-formed, fitting, same-variables, few-processes, either-way}
 use Rattle.program_graph.proofs.RunReady.{ready-exactly}
 
@@ -137,11 +141,11 @@ pub wait-keeps : (t : List ℕ) (run : ProgramGraphRun) (delta : ℕ) → fitsTa
     → (fitsTable t (waitOf t run delta .run) ≡ true) × Sized (waitOf t run delta .run)
 unfolding waitOf waitedOf fitsTable runFormed countsSame
 wait-keeps t run delta h z =
-    let P : Stepped → Type 0 = λ s. (fitsTable t (s .run) ≡ true) × Sized (s .run) in
-    rung P (fitsTable t run) (refusedRun R.BadState run) _ (h, z)
-    (λ e. rung P (waitFits run delta) (refusedRun R.Overflow run) _ (h, z)
-    (λ e. rung P (waitHolds t run delta) (refusedRun R.Invariant run) (acceptedRun (later run delta)) (h, z)
-    (λ e. (h, record { places = z .places; vars = z .vars; clocks = shifted-length (run .clocks) delta (run .timers) ∙ z .clocks }))))
+    let P : Waited → Type 0 = λ s. (fitsTable t (s .run) ≡ true) × Sized (s .run) in
+    rung P (fitsTable t run) (refusedWait 32 run) _ (h, z)
+    (λ e. rung P (waitFits run delta) (refusedWait 26 run) _ (h, z)
+    (λ e. rung P (waitHolds t run delta) (refusedWait 9 run) (acceptedWait (later run delta)) (h, z)
+    (λ e. (h, record { places = z .places; vars = z .vars; times = shifted-length (run .times) delta (run .clocks) ∙ z .times }))))
 
 -- ---- a step
 -- one of the table's, its arrays of their sizes
@@ -170,17 +174,17 @@ moved-kept t run posts vars clocks s h z known e v vz cz =
       and-both (and-first _ _ h)
           (and-both (all-from (placeKnown t (placedBelow (run .places) posts n)) n at)
           (subst (λ (m : ℕ). allBelow m (varFits t vars) ≡ true) (sym (same-variables t run h)) v)),
-      record { places = placed-length (run .places) posts n ∙ z .places; vars = vz; clocks = cz },
+      record { places = placed-length (run .places) posts n ∙ z .places; vars = vz; times = cz },
     )
 
 -- a step by EPSILON keeps a run one of its table's, whatever it answers
-idle-keeps : (t : List ℕ) (run : ProgramGraphRun) (posts : List ℕ) → Sound t → runFormed t run ≡ true → Sized run
+autonomous-keeps : (t : List ℕ) (run : ProgramGraphRun) (posts : List ℕ) → Sound t → runFormed t run ≡ true → Sized run
     → allBelow (length posts) (postKnown t posts) ≡ true → length posts ≡ run .processes
-    → (runFormed t (idleOf t run posts .run) ≡ true) × Sized (idleOf t run posts .run)
-unfolding idleOf
-idle-keeps t run posts s h z known e =
-    rung (λ (x : Stepped). Kept t (x .run)) _ (refusedRun R.UnsatisfiedGuard run) _ (h, z)
-    (λ q. moved-kept t run posts (run .vars) (run .clocks) s h z known e (vars-fit t run h) (z .vars) (z .clocks))
+    → (runFormed t (autonomousOf t run posts .run) ≡ true) × Sized (autonomousOf t run posts .run)
+unfolding autonomousOf
+autonomous-keeps t run posts s h z known e =
+    rung (λ (x : Stepped). Kept t (x .run)) _ (refused 8 run) _ (h, z)
+    (λ q. moved-kept t run posts (run .vars) (run .times) s h z known e (vars-fit t run h) (z .vars) (z .times))
 
 -- so does a step by a plain action
 plain-keeps : (t : List ℕ) (run : ProgramGraphRun) (a : ℕ) (posts : List ℕ) (word : ℕ) → Sound t → runFormed t run ≡ true → Sized run
@@ -189,11 +193,11 @@ plain-keeps : (t : List ℕ) (run : ProgramGraphRun) (a : ℕ) (posts : List ℕ
 unfolding plainOf
 plain-keeps t run a posts word s h z l k known e =
     let P : Stepped → Type 0 = λ x. Kept t (x .run) in
-    rung P _ (refusedRun R.UnsatisfiedGuard run) _ (h, z)
-    (λ q. rung P _ (refusedRun R.Overflow run) _ (h, z)
-    (λ r. moved-kept t run posts (effectedOf t a (run .vars) word .vars) (clocksAfter t a (run .clocks)) s h z known e
+    rung P _ (refused 8 run) _ (h, z)
+    (λ q. rung P _ (refused 26 run) _ (h, z)
+    (λ r. moved-kept t run posts (effectedOf t a (run .vars) word .vars) (clocksAfter t a (run .times)) s h z known e
     (effects-keep t s a l k (run .vars) word (effectCount t a) (omega arith) (z .vars) (vars-fit t run h))
-    (effects-length t a _ (effectCount t a) ∙ z .vars) (reset-length t a (run .clocks) (resetCount t a) ∙ z .clocks)))
+    (effects-length t a _ (effectCount t a) ∙ z .vars) (reset-length t a (run .times) (resetCount t a) ∙ z .times)))
 
 -- A step keeps a run one of its table's, whatever it answers.
 pub transition-keeps : (t : List ℕ) (run : ProgramGraphRun) (a : ℕ) (posts : List ℕ) (word : ℕ) → fitsTable t run ≡ true → Sized run
@@ -202,12 +206,12 @@ unfolding transitionOf stepOf actedOf
 transition-keeps t run a posts word f z =
     from-kept t run (transitionOf t run a posts word .run) f (λ s h.
     let P : Stepped → Type 0 = λ x. Kept t (x .run) in
-    rung P _ (refusedRun R.BadState run) _ (h, z)
-    (λ q. rung P _ (refusedRun R.MismatchingPostStates run) _ (h, z)
-    (λ e. rung P _ (refusedRun R.MissingLocation run) _ (h, z)
-    (λ known. either-way P (eqb a epsilon) _ _ (λ i. idle-keeps t run posts s h z known (eqb-true _ _ e))
-    (λ i. rung P _ (refusedRun R.MissingAction run) _ (h, z)
-    (λ l. rung P _ (refusedRun R.Communication run) _ (h, z)
+    rung P _ (refused 32 run) _ (h, z)
+    (λ q. rung P _ (refused 7 run) _ (h, z)
+    (λ e. rung P _ (refused 3 run) _ (h, z)
+    (λ known. either-way P (eqb a epsilon) _ _ (λ i. autonomous-keeps t run posts s h z known (eqb-true _ _ e))
+    (λ i. rung P _ (refused 1 run) _ (h, z)
+    (λ l. rung P _ (refused 13 run) _ (h, z)
     (λ k. plain-keeps t run a posts word s h z (ltb-true _ _ l) (eqb-true _ _ k) known (eqb-true _ _ e))))))))
 
 -- ---- a send and a receive
@@ -215,7 +219,7 @@ transition-keeps t run a posts word f z =
 ready-known : (t : List ℕ) (run : ProgramGraphRun) (a : ℕ) (posts : List ℕ) → Sound t → readyStill t run a posts ≡ true → length posts ≡ run .processes
     → allBelow (length posts) (postKnown t posts) ≡ true
 ready-known t run a posts s r e =
-    let each = ready-exactly t (run .vars) (run .clocks) (run .clocks) (run .places) (run .processes) a posts .0 r in
+    let each = ready-exactly t (run .vars) (run .times) (run .times) (run .places) (run .processes) a posts .0 r in
     all-from (postKnown t posts) (length posts) (λ p l.
     let k = each p (omega arith) in
     post-known t posts p (subst (λ (x : ℕ). x < locationCount t) (k .1 .to) (s .transition (k .0) (k .1 .known) .post)))
@@ -227,14 +231,14 @@ unfolding sendOf sentOf saidOf
 send-keeps t run a posts word f z =
     from-kept t run (sendOf t run a posts word .run) f (λ s h.
     let P : Sent → Type 0 = λ x. Kept t (x .run) in
-    rung P _ (refusedSend R.BadState run) _ (h, z)
-    (λ q. rung P _ (refusedSend R.NotSend run) _ (h, z)
-    (λ n. rung P _ (refusedSend R.MismatchingPostStates run) _ (h, z)
-    (λ e. rung P _ (refusedSend R.UnsatisfiedGuard run) _ (h, z)
-    (λ r. rung P _ (refusedSend R.NotSend run) _ (h, z)
-    (λ k. rung P _ (refusedSend R.Overflow run) _ (h, z)
-    (λ v. moved-kept t run posts (run .vars) (run .clocks) s h z (ready-known t run a posts s r (eqb-true _ _ e)) (eqb-true _ _ e)
-    (vars-fit t run h) (z .vars) (z .clocks))))))))
+    rung P _ (refusedSend 32 run) _ (h, z)
+    (λ q. rung P _ (refusedSend 14 run) _ (h, z)
+    (λ n. rung P _ (refusedSend 7 run) _ (h, z)
+    (λ e. rung P _ (refusedSend 8 run) _ (h, z)
+    (λ r. rung P _ (refusedSend 14 run) _ (h, z)
+    (λ k. rung P _ (refusedSend 26 run) _ (h, z)
+    (λ v. moved-kept t run posts (run .vars) (run .times) s h z (ready-known t run a posts s r (eqb-true _ _ e)) (eqb-true _ _ e)
+    (vars-fit t run h) (z .vars) (z .times))))))))
 
 -- So does a receive.
 pub receive-keeps : (t : List ℕ) (run : ProgramGraphRun) (a : ℕ) (posts : List ℕ) (m : Message) → fitsTable t run ≡ true → Sized run
@@ -242,16 +246,16 @@ pub receive-keeps : (t : List ℕ) (run : ProgramGraphRun) (a : ℕ) (posts : Li
 unfolding receiveOf receivedOf heardOf varFits
 receive-keeps t run a posts m f z =
     from-kept t run (receiveOf t run a posts m .run) f (λ s h.
-    let P : Stepped → Type 0 = λ x. Kept t (x .run) in
-    rung P _ (refusedRun R.BadState run) _ (h, z)
-    (λ q. rung P _ (refusedRun R.NotReceive run) _ (h, z)
-    (λ n. rung P _ (refusedRun R.MismatchingPostStates run) _ (h, z)
-    (λ e. rung P _ (refusedRun R.UnsatisfiedGuard run) _ (h, z)
-    (λ r. rung P _ (refusedRun R.NotReceive run) _ (h, z)
-    (λ k. rung P _ (refusedRun R.TypeMismatch run) _ (h, z)
-    (λ v. moved-kept t run posts (takenOf t a m (run .vars)) (run .clocks) s h z (ready-known t run a posts s r (eqb-true _ _ e)) (eqb-true _ _ e)
+    let P : Received → Type 0 = λ x. Kept t (x .run) in
+    rung P _ (refusedReceive 32 run) _ (h, z)
+    (λ q. rung P _ (refusedReceive 15 run) _ (h, z)
+    (λ n. rung P _ (refusedReceive 7 run) _ (h, z)
+    (λ e. rung P _ (refusedReceive 8 run) _ (h, z)
+    (λ r. rung P _ (refusedReceive 15 run) _ (h, z)
+    (λ k. rung P _ (refusedReceive 5 run) _ (h, z)
+    (λ v. moved-kept t run posts (takenOf t a m (run .vars)) (run .times) s h z (ready-known t run a posts s r (eqb-true _ _ e)) (eqb-true _ _ e)
     (all-kept (varFits t (run .vars)) (varFits t (takenOf t a m (run .vars))) (variableCount t) (λ i l g. taken-fits t a m (run .vars) i v g) (vars-fit t run h))
-    (taken-length t a m (run .vars) (effectCount t a) ∙ z .vars) (z .clocks))))))))
+    (taken-length t a m (run .vars) (effectCount t a) ∙ z .vars) (z .times))))))))
 
 -- ---- a fresh run
 module _ (t : List ℕ) where
@@ -305,8 +309,8 @@ module _ (t : List ℕ) where
       let counts : countsSame t (freshRun t) ≡ true = and-both (eq-eqb n n refl) (and-both (eq-eqb (variableCount t) _ refl) (eq-eqb (clockCount t) _ refl)) in
       let values : allBelow (variableCount t) (varFits t (startVars t (variableCount t))) ≡ true
       = values-fit (variableCount t) (s .counts .variables) (λ v l. s .variable v l .kind) in
-      let P : Stepped → Type 0 = λ x. (fitsTable t (x .run) ≡ true) × Sized (x .run) in
-      subst (λ (b : Bool). P (unless b (refusedRun R.BadState noRun) (acceptedRun (freshRun t)))) (sym h) (
+      let P : Fresh → Type 0 = λ x. (fitsTable t (x .run) ≡ true) × Sized (x .run) in
+      subst (λ (b : Bool). P (unless b (record { answer = Done.Refused (refusal 32); run = noRun }) (record { answer = Done.Accepted; run = freshRun t }))) (sym h) (
         and-both h (and-both counts (and-both (all-from (placeKnown t (startPlaces t n)) n at) values)),
-        record { places = start-length n; vars = values-length (variableCount t); clocks = refl },
+        record { places = start-length n; vars = values-length (variableCount t); times = refl },
       )

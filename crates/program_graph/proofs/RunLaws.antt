@@ -14,7 +14,7 @@ use Rattle.graph_tables.proofs.SoundLaws.{sound}
 use Rattle.program_graph.specs.Facts.{Sized}
 use Rattle.program_graph.specs.Running.{placeKnown, countsSame, runFormed, fitsTable}
 use Rattle.program_graph.specs.Messaging.{isKind}
-use Rattle.program_graph.specs.declared.run.ProgramGraphRun.{ProgramGraphRun}
+use Rattle.program_graph.specs.declared.record.ProgramGraphRun.{ProgramGraphRun}
 
 module _ (t : List ℕ) (run : ProgramGraphRun) where
   -- ---- the table and the run of a pair that fits
@@ -38,9 +38,9 @@ module _ (t : List ℕ) (run : ProgramGraphRun) where
   unfolding runFormed countsSame
   same-variables h = eqb-true _ _ (and-first _ _ (and-rest _ _ (and-first _ _ h)))
 
-  pub same-timers : runFormed t run ≡ true → run .timers ≡ clockCount t
+  pub same-clocks : runFormed t run ≡ true → run .clocks ≡ clockCount t
   unfolding runFormed countsSame
-  same-timers h = eqb-true _ _ (and-rest _ _ (and-rest _ _ (and-first _ _ h)))
+  same-clocks h = eqb-true _ _ (and-rest _ _ (and-rest _ _ (and-first _ _ h)))
 
   pub few-processes : Sound t → runFormed t run ≡ true → run .processes ≤ 4
   few-processes s h = omega (arith, same-processes h, s .counts .processes)
@@ -48,15 +48,15 @@ module _ (t : List ℕ) (run : ProgramGraphRun) where
   pub few-variables : Sound t → runFormed t run ≡ true → run .variables ≤ 16
   few-variables s h = omega (arith, same-variables h, s .counts .variables)
 
-  pub few-timers : Sound t → runFormed t run ≡ true → run .timers ≤ 8
-  few-timers s h = omega (arith, same-timers h, s .counts .clocks)
+  pub few-clocks : Sound t → runFormed t run ≡ true → run .clocks ≤ 8
+  few-clocks s h = omega (arith, same-clocks h, s .counts .clocks)
 
   -- ---- there is room for its processes and clocks
   pub places-room : fitsTable t run ≡ true → Sized run → run .processes ≤ length (run .places)
   places-room h z = omega (arith, few-processes (fitting h .0) (fitting h .1), z .places)
 
-  pub clocks-room : fitsTable t run ≡ true → Sized run → run .timers ≤ length (run .clocks)
-  clocks-room h z = omega (arith, few-timers (fitting h .0) (fitting h .1), z .clocks)
+  pub clocks-room : fitsTable t run ≡ true → Sized run → run .clocks ≤ length (run .times)
+  clocks-room h z = omega (arith, few-clocks (fitting h .0) (fitting h .1), z .times)
 
   -- ---- each process is at a location
   pub places-below : runFormed t run ≡ true → (p : ℕ) → p < run .processes → getD (run .places) p 0 < locationCount t

@@ -14,32 +14,33 @@ use Rattle.laws.proofs.Ladder.{passed}
 use Rattle.laws.proofs.BelowLaws.{and-first, and-rest, and-both, all-at, all-from}
 use Rattle.laws.proofs.Tests.{never}
 use Rattle.grammar.specs.declared.values.Slot.{Slot}
-use Rattle.graph_tables.specs.declared.refusals.Refusal.the-variants as R
+use Rattle.graph_tables.specs.Answers.{doneNumber}
+use Rattle.graph_tables.specs.Sizes.{actionRoom, sendKind, receiveKind}
 use Rattle.graph_tables.specs.declared.handed.Message.{Message}
-use Rattle.graph_tables.specs.Words.{actionCount, transitionCount, keyOf, postOf, epsilon}
+use Rattle.graph_tables.specs.Words.{actionCount, transitionCount, keyOf, postOf, invariantGroup, epsilon}
 use Rattle.graph_steps.specs.Steps.{limitHolds, limitsHold, invariantsHold, passesOf, candidateOf, leadsOf, processReady, readyOf, clocksAfter, postKnown}
 use Rattle.graph_steps.proofs.StepLaws.{post-known}
 use Rattle.graph_steps.proofs.AnyLaws.{any-some, any-found}
 use Rattle.graph_tables.specs.declared.answers.Done.{Done}
-use Rattle.graph_tables.specs.declared.answers.Done.the-variants as Done
 use Rattle.program_graph.specs.Facts.{InvariantsAt, Passing, AllPass, PastGuards, StepAsked, PlainAsked, MessageAsked}
-use Rattle.program_graph.specs.declared.run.ProgramGraphRun.{ProgramGraphRun}
-use Rattle.program_graph.specs.declared.run.Stepped.{Stepped}
-use Rattle.program_graph.specs.declared.run.Sent.{Sent}
-use Rattle.program_graph.specs.Running.{refusedRun, fitsTable, readyStill, idleOf, plainOf, actedOf, stepOf, transitionOf}
-use Rattle.program_graph.specs.Messaging.{refusedSend, isKind, saidOf, sentOf, sendOf, heardOf, receivedOf, receiveOf}
+use Rattle.program_graph.specs.declared.record.ProgramGraphRun.{ProgramGraphRun}
+use Rattle.program_graph.specs.declared.answers.Stepped.{Stepped}
+use Rattle.program_graph.specs.declared.answers.Sent.{Sent}
+use Rattle.program_graph.specs.declared.answers.Received.{Received}
+use Rattle.program_graph.specs.Running.{refused, fitsTable, readyStill, autonomousOf, plainOf, actedOf, stepOf, transitionOf}
+use Rattle.program_graph.specs.Messaging.{refusedSend, refusedReceive, isKind, saidOf, sentOf, sendOf, heardOf, receivedOf, receiveOf}
 use Rattle.program_graph.proofs.RunLaws.{fitting, left-over}
-use Rattle.program_graph.proofs.Answers.{accepted-refused, step-not, sent-not}
+use Rattle.program_graph.proofs.AnswerLaws.{skip}
 
 -- the test, and the facts
 module _ (t clocks : List ℕ) (l : ℕ) where
   pub invariant-at : invariantsHold t clocks l ≡ true → InvariantsAt t clocks l
   unfolding invariantsHold limitsHold limitHolds
-  invariant-at h i m = all-at (limitHolds t (128 + l) clocks) _ i h m
+  invariant-at h i m = all-at (limitHolds t (invariantGroup l) clocks) _ i h m
 
   pub invariants-from : InvariantsAt t clocks l → invariantsHold t clocks l ≡ true
   unfolding invariantsHold limitsHold limitHolds
-  invariants-from f = all-from (limitHolds t (128 + l) clocks) _ f
+  invariants-from f = all-from (limitHolds t (invariantGroup l) clocks) _ f
 
 -- ---- when processes are ready
 module _ (t : List ℕ) (vars : List Slot) (clocks after : List ℕ) where
@@ -84,7 +85,7 @@ module _ (t : List ℕ) (vars : List Slot) (clocks after : List ℕ) where
 
 -- ---- which calls get past their guards
 -- a rung for the guards that fails is where a ladder stops, and one that is passed is not
-guards : {A : Type 0} (answer : A → Done) (b : Bool) (refusal rest : A) → answer refusal ≡ Done.Refused R.UnsatisfiedGuard
+guards : {A : Type 0} (answer : A → Done) (b : Bool) (refusal rest : A) → doneNumber (answer refusal) ≡ 8
     → PastGuards (answer rest) → PastGuards (answer (unless b refusal rest)) ↔ (b ≡ true)
 unfolding unless
 guards answer true refusal rest e n = (λ k. refl, λ q. n)
@@ -104,18 +105,18 @@ module _ (t : List ℕ) (run : ProgramGraphRun) (posts : List ℕ) where
   step-asked f e k = record { fits = f; one-each = eqb-true _ _ e; known = λ p l. ltb-true _ _ (all-at (postKnown t posts) (length posts) p k l) }
 
   -- a call that is ready, as a test and in full
-  pub all-pass : (a : ℕ) (after : List ℕ) → (readyOf t (run .vars) (run .clocks) after (run .places) (run .processes) a posts ≡ true) ↔ AllPass t run a posts after
-  all-pass a after = ready-exactly t (run .vars) (run .clocks) after (run .places) (run .processes) a posts
+  pub all-pass : (a : ℕ) (after : List ℕ) → (readyOf t (run .vars) (run .times) after (run .places) (run .processes) a posts ≡ true) ↔ AllPass t run a posts after
+  all-pass a after = ready-exactly t (run .vars) (run .times) after (run .places) (run .processes) a posts
 
   -- what is asked passes the rungs before the guards
-  reached-idle : (word : ℕ) → StepAsked t run posts → idleOf t run posts ≡ transitionOf t run epsilon posts word
+  reached-autonomous : (word : ℕ) → StepAsked t run posts → autonomousOf t run posts ≡ transitionOf t run epsilon posts word
   unfolding transitionOf stepOf
-  reached-idle word q = passed _ (q .fits) (passed _ (eq-eqb _ _ (q .one-each)) (passed _ (posts-known q) refl))
+  reached-autonomous word q = passed _ (q .fits) (passed _ (eq-eqb _ _ (q .one-each)) (passed _ (posts-known q) refl))
 
   reached-plain : (a word : ℕ) → PlainAsked t run a posts → plainOf t run a posts word ≡ transitionOf t run a posts word
   unfolding transitionOf stepOf actedOf
   reached-plain a word q =
-      let few : actionCount t ≤ 32 = fitting t run (q .step .fits) .0 .counts .actions in
+      let few : actionCount t ≤ actionRoom = fitting t run (q .step .fits) .0 .counts .actions in
       passed _ (q .step .fits)
       (passed _ (eq-eqb _ _ (q .step .one-each))
       (passed _ (posts-known (q .step))
@@ -123,57 +124,57 @@ module _ (t : List ℕ) (run : ProgramGraphRun) (posts : List ℕ) where
       (passed _ (lt-ltb _ _ (q .action)) (passed _ (eq-eqb _ _ (q .plain)) refl)))))
 
   reached-send : (a word : ℕ) → MessageAsked t run a posts
-      → unless (readyStill t run a posts) (refusedSend R.UnsatisfiedGuard run) (unless (isKind t a 1) (refusedSend R.NotSend run) (saidOf t run a posts word))
+      → unless (readyStill t run a posts) (refusedSend 8 run) (unless (isKind t a sendKind) (refusedSend 14 run) (saidOf t run a posts word))
       ≡ sendOf t run a posts word
   unfolding sendOf sentOf
   reached-send a word q = passed _ (q .fits) (passed _ (ap not (ne-eqb a epsilon (q .named))) (passed _ (eq-eqb _ _ (q .one-each)) refl))
 
   reached-receive : (a : ℕ) (m : Message) → MessageAsked t run a posts
-      → unless (readyStill t run a posts) (refusedRun R.UnsatisfiedGuard run) (unless (isKind t a 2) (refusedRun R.NotReceive run) (heardOf t run a posts m))
+      → unless (readyStill t run a posts) (refusedReceive 8 run) (unless (isKind t a receiveKind) (refusedReceive 15 run) (heardOf t run a posts m))
       ≡ receiveOf t run a posts m
   unfolding receiveOf receivedOf
   reached-receive a m q = passed _ (q .fits) (passed _ (ap not (ne-eqb a epsilon (q .named))) (passed _ (eq-eqb _ _ (q .one-each)) refl))
 
   -- ---- when a call gets past its guards
   -- A step by EPSILON gets past its guards exactly when each process has a transition that passes, on the clocks as they are.
-  pub idle-exactly : (word : ℕ) → StepAsked t run posts → PastGuards (transitionOf t run epsilon posts word .answer) ↔ AllPass t run epsilon posts (run .clocks)
-  unfolding idleOf
-  idle-exactly word q =
-      subst (λ (s : Stepped). PastGuards (s .answer) ↔ AllPass t run epsilon posts (run .clocks)) (reached-idle word q)
+  pub autonomous-exactly : (word : ℕ) → StepAsked t run posts → PastGuards (transitionOf t run epsilon posts word .answer) ↔ AllPass t run epsilon posts (run .times)
+  unfolding autonomousOf
+  autonomous-exactly word q =
+      subst (λ (s : Stepped). PastGuards (s .answer) ↔ AllPass t run epsilon posts (run .times)) (reached-autonomous word q)
       (through
-      (guards (λ (s : Stepped). s .answer) (readyStill t run epsilon posts) (refusedRun R.UnsatisfiedGuard run) _ refl (λ e. accepted-refused _ e))
-      (all-pass epsilon (run .clocks)))
+      (guards (λ (s : Stepped). s .answer) (readyStill t run epsilon posts) (refused 8 run) _ refl (λ e. omega arith))
+      (all-pass epsilon (run .times)))
 
   -- A plain step gets past its guards exactly when each process has a transition that passes, with the clocks that the action resets at 0.
   pub plain-exactly : (a word : ℕ) → PlainAsked t run a posts
-      → PastGuards (transitionOf t run a posts word .answer) ↔ AllPass t run a posts (clocksAfter t a (run .clocks))
+      → PastGuards (transitionOf t run a posts word .answer) ↔ AllPass t run a posts (clocksAfter t a (run .times))
   unfolding plainOf
   plain-exactly a word q =
-      subst (λ (s : Stepped). PastGuards (s .answer) ↔ AllPass t run a posts (clocksAfter t a (run .clocks))) (reached-plain a word q)
+      subst (λ (s : Stepped). PastGuards (s .answer) ↔ AllPass t run a posts (clocksAfter t a (run .times))) (reached-plain a word q)
       (through
-      (guards (λ (s : Stepped). s .answer) (readyOf t (run .vars) (run .clocks) (clocksAfter t a (run .clocks)) (run .places) (run .processes) a posts)
-      (refusedRun R.UnsatisfiedGuard run) _ refl
-      (step-not R.UnsatisfiedGuard run _ R.Overflow refl _ (λ e. accepted-refused _ e)))
-      (all-pass a (clocksAfter t a (run .clocks))))
+      (guards (λ (s : Stepped). s .answer) (readyOf t (run .vars) (run .times) (clocksAfter t a (run .times)) (run .places) (run .processes) a posts)
+      (refused 8 run) _ refl
+      (skip (λ (s : Stepped). s .answer) 8 _ (refused 26 run) _ (λ e. omega arith) (λ e. omega arith)))
+      (all-pass a (clocksAfter t a (run .times))))
 
   -- A send gets past its guards exactly when each process has a transition that passes, on the clocks as they are.
-  pub send-exactly : (a word : ℕ) → MessageAsked t run a posts → PastGuards (sendOf t run a posts word .answer) ↔ AllPass t run a posts (run .clocks)
+  pub send-exactly : (a word : ℕ) → MessageAsked t run a posts → PastGuards (sendOf t run a posts word .answer) ↔ AllPass t run a posts (run .times)
   unfolding saidOf
   send-exactly a word q =
-      subst (λ (s : Sent). PastGuards (s .answer) ↔ AllPass t run a posts (run .clocks)) (reached-send a word q)
+      subst (λ (s : Sent). PastGuards (s .answer) ↔ AllPass t run a posts (run .times)) (reached-send a word q)
       (through
-      (guards (λ (s : Sent). s .answer) (readyStill t run a posts) (refusedSend R.UnsatisfiedGuard run) _ refl
-      (sent-not R.UnsatisfiedGuard run _ R.NotSend refl _
-      (sent-not R.UnsatisfiedGuard run _ R.Overflow refl _ (λ e. accepted-refused _ e))))
-      (all-pass a (run .clocks)))
+      (guards (λ (s : Sent). s .answer) (readyStill t run a posts) (refusedSend 8 run) _ refl
+      (skip (λ (s : Sent). s .answer) 8 _ (refusedSend 14 run) _ (λ e. omega arith)
+      (skip (λ (s : Sent). s .answer) 8 _ (refusedSend 26 run) _ (λ e. omega arith) (λ e. omega arith))))
+      (all-pass a (run .times)))
 
   -- So does a receive.
-  pub receive-exactly : (a : ℕ) (m : Message) → MessageAsked t run a posts → PastGuards (receiveOf t run a posts m .answer) ↔ AllPass t run a posts (run .clocks)
+  pub receive-exactly : (a : ℕ) (m : Message) → MessageAsked t run a posts → PastGuards (receiveOf t run a posts m .answer) ↔ AllPass t run a posts (run .times)
   unfolding heardOf
   receive-exactly a m q =
-      subst (λ (s : Stepped). PastGuards (s .answer) ↔ AllPass t run a posts (run .clocks)) (reached-receive a m q)
+      subst (λ (s : Received). PastGuards (s .answer) ↔ AllPass t run a posts (run .times)) (reached-receive a m q)
       (through
-      (guards (λ (s : Stepped). s .answer) (readyStill t run a posts) (refusedRun R.UnsatisfiedGuard run) _ refl
-      (step-not R.UnsatisfiedGuard run _ R.NotReceive refl _
-      (step-not R.UnsatisfiedGuard run _ R.TypeMismatch refl _ (λ e. accepted-refused _ e))))
-      (all-pass a (run .clocks)))
+      (guards (λ (s : Received). s .answer) (readyStill t run a posts) (refusedReceive 8 run) _ refl
+      (skip (λ (s : Received). s .answer) 8 _ (refusedReceive 15 run) _ (λ e. omega arith)
+      (skip (λ (s : Received). s .answer) 8 _ (refusedReceive 5 run) _ (λ e. omega arith) (λ e. omega arith))))
+      (all-pass a (run .times)))

@@ -4,11 +4,12 @@ use mathlib.Core.Path.{_≡_, refl, ap, _∙_}
 use mathlib.Core.Bool.{Bool, true}
 use mathlib.Core.List.{List, [], _∷_, _++_}
 use native.Mathlib.Omega.{arith}
+use Rattle.graph_tables.specs.Sizes.{actionRoom}
 use Rattle.graph_tables.specs.declared.handed.Limits.{Limits}
-use Rattle.graph_tables.specs.Words.{locationCount}
+use Rattle.graph_tables.specs.Words.{locationCount, keyWith, invariantGroup}
 use Rattle.graph_tables.proofs.SoundLaws.{sound}
 use Rattle.graph_tables.proofs.KeptLaws.{apart}
-use Rattle.graph_edits.specs.Edits.{keyWith, withReset, withEffect, withLocation, withTransition}
+use Rattle.graph_edits.specs.Edits.{withReset, withEffect, withLocation, withTransition}
 use Rattle.graph_edits.specs.Lists.{insertSorted, limitsOf, sortedLimits, resetsOf, effectsOf, StoredTransition, transitionsOf}
 use Rattle.graph_edits.proofs.ListLaws.{resets-list, effects-list, transitions-list, location-list}
 use Rattle.graph_tables.specs.declared.answers.Done.{Done}
@@ -17,7 +18,7 @@ use Rattle.graph_tables.specs.declared.answers.Placed.the-variants as Placed
 use Rattle.graph_checks.specs.Checks.{resetCheck, effectCheck, locationCheck, transitionCheck}
 use Rattle.program_graph.specs.Building.{doneIf, placedIf, addResetOf, addEffectOf, newTimedLocationOf, guardOf, addTransitionOf}
 use Rattle.program_graph.proofs.BuildingLaws.{words-of, counted-of}
-use Rattle.program_graph.proofs.KeepLaws.{guard-fits}
+use Rattle.program_graph.proofs.FormedCalls.{guard-fits}
 use Rattle.graph_checks.proofs.ReadyActions.{reset-ready, effect-ready}
 use Rattle.graph_checks.proofs.ReadyParts.{location-ready, transition-ready}
 
@@ -44,12 +45,12 @@ transition-stored t pre a post guarded ws l e =
 
 -- The invariants of a location stand in the order of their clocks, equal ones as handed.
 pub invariants-stored : (t : List ℕ) (l : Limits) (n : ℕ) → newTimedLocationOf t l .answer ≡ Placed.At n
-    → limitsOf (newTimedLocationOf t l .table) (128 + locationCount t) (l .count) ≡ sortedLimits l (l .count)
+    → limitsOf (newTimedLocationOf t l .table) (invariantGroup (locationCount t)) (l .count) ≡ sortedLimits l (l .count)
 unfolding newTimedLocationOf
 invariants-stored t l n e =
     let d = placed-is (locationCheck t l) t (locationCount t) n (withLocation t l) e in
     let r = location-ready t l (d .0) in
-    ap (λ (u : List ℕ). limitsOf u (128 + locationCount t) (l .count)) (d .1) ∙ location-list t l (words-of t true (r .formed)) (r .room) (r .limits .0)
+    ap (λ (u : List ℕ). limitsOf u (invariantGroup (locationCount t)) (l .count)) (d .1) ∙ location-list t l (words-of t true (r .formed)) (r .room) (r .limits .0)
 
 -- A reset goes before the first clock that is greater.
 pub reset-stored : (t : List ℕ) (a clock : ℕ) → addResetOf t a clock .answer ≡ Done.Accepted
@@ -58,7 +59,7 @@ unfolding addResetOf
 reset-stored t a clock e =
     let d = done-is (resetCheck t a clock) t (withReset t a clock) e in
     let r = reset-ready t a clock (d .0) in
-    let low : a < 32 = omega (arith, r .action .0, counted-of t true (r .formed) .actions) in
+    let low : a < actionRoom = omega (arith, r .action .0, counted-of t true (r .formed) .actions) in
     ap (λ (u : List ℕ). resetsOf u a) (d .1) ∙ resets-list t a clock (words-of t true (r .formed)) low (r .room)
 
 -- An effect is appended.
@@ -69,6 +70,6 @@ effect-stored t a v ws e =
     let d = done-is (effectCheck t a v ws) t (withEffect t a v ws) e in
     let r = effect-ready t a v ws (d .0) in
     let s = sound t true (r .formed) in
-    let low : a < 32 = omega (arith, r .known, s .counts .actions) in
+    let low : a < actionRoom = omega (arith, r .known, s .counts .actions) in
     ap (λ (u : List ℕ). effectsOf u a) (d .1)
     ∙ effects-list t a v ws (s .words) low (r .few) (r .short) (λ i l. s .action a (r .known) .plain (r .plain) .effect i l .expression .short)

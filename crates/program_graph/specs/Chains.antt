@@ -3,6 +3,7 @@ use Prim.Native.Nat.{ℕ, _<_}
 use mathlib.Core.Bool.{Bool}
 use mathlib.Core.List.{List, [], _∷_}
 use Rattle.grammar.specs.declared.values.Val.{Val}
+use Rattle.graph_tables.specs.Sizes.{word32}
 use Rattle.graph_tables.specs.declared.handed.Limits.{Limits}
 use Rattle.graph_tables.specs.declared.handed.Vars.{Vars}
 use Rattle.graph_edits.specs.Edits.{LimitsFit}
@@ -53,7 +54,7 @@ grows (add-transition pre a post guarded ws l) = all-transitions
 
 -- handed integers and times have 32 bits
 abbrev pub Fits : Call → Type 0
-Fits (new-var v) = payloadOf v < 4294967296
+Fits (new-var v) = payloadOf v < word32
 Fits new-clock = Unit {0}
 Fits new-action = Unit {0}
 Fits (new-process l) = Unit {0}

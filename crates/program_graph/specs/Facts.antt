@@ -6,33 +6,37 @@ use mathlib.Core.List.{List}
 use lib.ListN.{length, getD}
 use Rattle.time.specs.Time.{inRange}
 use Rattle.grammar.specs.declared.values.Slot.{Slot}
-use Rattle.graph_tables.specs.declared.refusals.Refusal.{Refusal}
-use Rattle.graph_tables.specs.declared.refusals.Refusal.the-variants as R
+use Rattle.graph_tables.specs.Sizes.{processRoom, variableRoom, clockRoom, plainKind}
+use Rattle.graph_tables.specs.Answers.{doneNumber}
 use Rattle.graph_tables.specs.declared.answers.Done.{Done}
-use Rattle.graph_tables.specs.declared.answers.Done.the-variants as Done
-use Rattle.graph_tables.specs.Words.{locationCount, actionCount, transitionCount, invariantCount, actionKind, keyOf, limitCount, preOf, actionOf, postOf, clockOf, limitRange, epsilon}
+use Rattle.graph_tables.specs.Words.{locationCount, actionCount, transitionCount, invariantCount, actionKind, keyOf, limitCount, preOf, actionOf, postOf, invariantGroup, clockOf, limitRange, epsilon}
 use Rattle.graph_steps.specs.Steps.{guardHolds}
 use Rattle.program_graph.specs.Running.{fitsTable}
-use Rattle.program_graph.specs.declared.run.ProgramGraphRun.{ProgramGraphRun}
+use Rattle.program_graph.specs.declared.record.ProgramGraphRun.{ProgramGraphRun}
 
 -- the arrays of a run have their sizes, as every run that is handed in has
 pub record Sized (run : ProgramGraphRun) : Type 0 where
-  pub places : length (run .places) ≡ 4
-  pub vars : length (run .vars) ≡ 16
-  pub clocks : length (run .clocks) ≡ 8
+  pub places : length (run .places) ≡ processRoom
+  pub vars : length (run .vars) ≡ variableRoom
+  pub times : length (run .times) ≡ clockRoom
 
--- an answer is not this refusal
-abbrev pub Not : Refusal → Done → Type 0
-Not q d = d ≡ Done.Refused q → ⊥
+-- ---- answers, by their numbers
+-- it is accepted
+pub record Ok (d : Done) : Type 0 where
+  pub number : doneNumber d ≡ 0
+
+-- it is not refused with this number
+abbrev pub Not : ℕ → Done → Type 0
+Not n d = doneNumber d ≡ n → ⊥
 
 -- ---- invariants
 -- each invariant of location l holds on the clocks
 abbrev pub InvariantsAt : List ℕ → List ℕ → ℕ → Type 0
-InvariantsAt t clocks l = (i : ℕ) → i < invariantCount t l → inRange (limitRange t (128 + l) i) (getD clocks (clockOf t (128 + l) i) 0) ≡ true
+InvariantsAt t clocks l = (i : ℕ) → i < invariantCount t l → inRange (limitRange t (invariantGroup l) i) (getD clocks (clockOf t (invariantGroup l) i) 0) ≡ true
 
 -- each invariant of every occupied location holds
 abbrev pub Holding : List ℕ → ProgramGraphRun → Type 0
-Holding t run = (p : ℕ) → p < run .processes → InvariantsAt t (run .clocks) (getD (run .places) p 0)
+Holding t run = (p : ℕ) → p < run .processes → InvariantsAt t (run .times) (getD (run .places) p 0)
 
 -- ---- readiness
 -- transition k leads from `pre` by the action to `post` and passes
@@ -52,11 +56,11 @@ pub record Passing (t : List ℕ) (vars : List Slot) (clocks after : List ℕ) (
 -- each process of a run has a transition from its place, by the action, to its post that passes
 abbrev pub AllPass : List ℕ → ProgramGraphRun → ℕ → List ℕ → List ℕ → Type 0
 AllPass t run a posts after =
-    (p : ℕ) → p < run .processes → (k : ℕ) × Passing t (run .vars) (run .clocks) after (getD (run .places) p 0) a (getD posts p 0) k
+    (p : ℕ) → p < run .processes → (k : ℕ) × Passing t (run .vars) (run .times) after (getD (run .places) p 0) a (getD posts p 0) k
 
 -- a call's answer is not that a guard is unsatisfied (8): it gets past its guards
 abbrev pub PastGuards : Done → Type 0
-PastGuards d = Not R.UnsatisfiedGuard d
+PastGuards d = Not 8 d
 
 -- ---- what is not refused before the guards
 -- a step that is not refused for its run or its posts: with 32, 7 or 3
@@ -69,7 +73,7 @@ pub record StepAsked (t : List ℕ) (run : ProgramGraphRun) (posts : List ℕ) :
 pub record PlainAsked (t : List ℕ) (run : ProgramGraphRun) (a : ℕ) (posts : List ℕ) : Type 0 where
   pub step : StepAsked t run posts
   pub action : a < actionCount t
-  pub plain : actionKind t a ≡ 0
+  pub plain : actionKind t a ≡ plainKind
 
 -- a send or a receive that is not refused for its run, for EPSILON, or for its posts: with 32, 14 or 15, or 7
 pub record MessageAsked (t : List ℕ) (run : ProgramGraphRun) (a : ℕ) (posts : List ℕ) : Type 0 where

@@ -16,14 +16,12 @@ use Rattle.grammar.specs.declared.items.Binary.the-variants.{Add}
 use Rattle.grammar.specs.declared.items.Item.the-variants.{Constant, Variable, Binary}
 use Rattle.graph_tables.specs.Handed.{blankLimit, noLimits}
 use Rattle.graph_tables.specs.declared.handed.Limits.{Limits}
-use Rattle.graph_tables.specs.declared.refusals.Refusal.the-variants as R
-use Rattle.graph_tables.specs.declared.answers.Done.{Done}
-use Rattle.graph_tables.specs.declared.answers.Done.the-variants.{Accepted, Refused}
+use Rattle.graph_tables.specs.Answers.{doneNumber}
 use Rattle.program_graph.specs.Building.{emptyOf}
 use Rattle.program_graph.specs.Chains.{Call, new-var, new-clock, new-action, add-reset, add-effect, new-timed-location, new-initial-location, add-transition, afterAll}
 use Rattle.program_graph.specs.Running.{newRunOf, transitionOf, waitOf, valueIn}
-use Rattle.program_graph.specs.declared.run.Value.{Value}
-use Rattle.program_graph.specs.declared.run.Value.the-variants.{Is}
+use Rattle.program_graph.specs.declared.answers.Value.{Value}
+use Rattle.program_graph.specs.declared.answers.Value.the-variants.{Is}
 
 -- the examples of two lists
 abbrev pub both : Examples → Examples → Examples
@@ -45,8 +43,8 @@ abbrev atLeast : ℕ → Limits
 atLeast n = within (Included n) Unbounded
 
 -- what a fresh run of a graph answers to a wait
-abbrev waits : List ℕ → ℕ → Done
-waits t delta = waitOf t (newRunOf t .run) delta .answer
+abbrev waits : List ℕ → ℕ → ℕ
+waits t delta = doneNumber (waitOf t (newRunOf t .run) delta .answer)
 
 -- one location, where c <= 5
 abbrev still : List ℕ
@@ -63,8 +61,8 @@ abbrev resets : List Call
 resets = add-reset 0 0 ∷ []
 
 -- what a run of it answers to the step at c = 7
-abbrev enters : List ℕ → Done
-enters t = transitionOf t (waitOf t (newRunOf t .run) 7 .run) 0 (1 ∷ []) 0 .answer
+abbrev enters : List ℕ → ℕ
+enters t = doneNumber (transitionOf t (waitOf t (newRunOf t .run) 7 .run) 0 (1 ∷ []) 0 .answer)
 
 -- v and u, both 0, and an action that does v := v + 1, u := v
 abbrev counting : List ℕ
@@ -82,17 +80,17 @@ counted t = valueIn t (transitionOf t (newRunOf t .run) 0 (0 ∷ []) 0 .run) 1
 abbrev pub graph-examples : Examples
 graph-examples =
     -- W1 valid state, wait 0: ok
-    gives (waits still 0) Accepted
+    gives (waits still 0) 0
     -- W2 invariant c <= 5, c = 0, wait 5: ok
-    (gives (waits still 5) Accepted
+    (gives (waits still 5) 0
     -- W3 wait 6: 9
-    (gives (waits still 6) (Refused R.Invariant)
+    (gives (waits still 6) 9
     -- W4 c = 7, post-invariant c <= 5, action resets c: ok
-    (gives (enters (entered resets noLimits)) Accepted
+    (gives (enters (entered resets noLimits)) 0
     -- W5 no reset: 8
-    (gives (enters (entered [] noLimits)) (Refused R.UnsatisfiedGuard)
+    (gives (enters (entered [] noLimits)) 8
     -- W6 limit c >= 3, c = 7, same reset: ok
-    (gives (enters (entered resets (atLeast 3))) Accepted
+    (gives (enters (entered resets (atLeast 3))) 0
     -- W13 v := v + 1, u := v from v = 0: u = 1
     (gives (counted counting) (Is (Integer (pos 1)))
     end))))))

@@ -1,16 +1,16 @@
 -- Calls on a run one after the other, whatever they answer, and the time since a clock was reset.
 use Prim.Native.Nat.{ℕ, _+_}
-use mathlib.Core.Bool.{Bool, true, false, not, cond}
+use mathlib.Core.Bool.{Bool, not, cond}
 use mathlib.Core.List.{List, [], _∷_}
 use lib.Dec.{eqb}
 use Rattle.laws.specs.Below.{_and_, anyBelow}
 use Rattle.graph_tables.specs.declared.answers.Done.{Done}
-use Rattle.graph_tables.specs.declared.answers.Done.the-variants.{Accepted, Refused}
+use Rattle.graph_tables.specs.Answers.{doneNumber}
 use Rattle.graph_tables.specs.declared.handed.Message.{Message}
 use Rattle.graph_tables.specs.Words.{resetCount, resetAt, epsilon}
 use Rattle.program_graph.specs.Running.{transitionOf, waitOf}
 use Rattle.program_graph.specs.Messaging.{sendOf, receiveOf}
-use Rattle.program_graph.specs.declared.run.ProgramGraphRun.{ProgramGraphRun}
+use Rattle.program_graph.specs.declared.record.ProgramGraphRun.{ProgramGraphRun}
 
 -- a call on a run, with what is handed to it: an action, posts and a word or a message; or a delta
 pub data RunCall : Type 0 where
@@ -40,8 +40,7 @@ runAfterAll t run (call ∷ calls) = runAfterAll t (runAfter t run call) calls
 
 -- ---- the time since a clock was reset
 abbrev pub isAccepted : Done → Bool
-isAccepted Accepted = true
-isAccepted (Refused r) = false
+isAccepted d = eqb (doneNumber d) 0
 
 -- reset i of action a is of clock c
 unfoldable pub resetIs : List ℕ → ℕ → ℕ → ℕ → Bool

@@ -6,6 +6,7 @@ use graph_checks::checks;
 use graph_edits::inner::actions;
 use graph_edits::inner::locations;
 use graph_edits::inner::transitions;
+use graph_edits::inner::variables;
 use graph_tables::answers::Done;
 use graph_tables::answers::Placed;
 use graph_tables::answers::VarType;
@@ -17,6 +18,7 @@ use graph_tables::ids::Clock;
 use graph_tables::ids::Location;
 use graph_tables::ids::Var;
 use graph_tables::inner;
+use graph_tables::layout;
 use graph_tables::refusals::Refusal;
 use graph_tables::sizes;
 ghost use mathlib.Core.Path.{_≡_};
@@ -42,30 +44,26 @@ pub fn new(t: &mut [u64]) -> Done
     if t.len() != sizes::WORDS {
         return Done::Refused(Refusal::BadState);
     }
-    t[0] = 0;
-    t[1] = 0;
-    t[2] = 0;
-    t[3] = 0;
-    t[4] = 0;
-    t[5] = 0;
+    t[layout::VARIABLES] = 0;
+    t[layout::CLOCKS] = 0;
+    t[layout::LOCATIONS] = 0;
+    t[layout::ACTIONS] = 0;
+    t[layout::PROCESSES] = 0;
+    t[layout::TRANSITIONS] = 0;
     Done::Accepted
 }
 
 pub fn new_var(t: &mut [u64], val: Val) -> Placed
     ensures { λ r. ⌜ (r ≡ newVarOf (now (t .entry)) val .answer) × (now (t .exit) ≡ newVarOf (now (t .entry)) val .table) ⌝ }
 {
-    if !formed::well_formed(t, true) {
-        return Placed::Refused(Refusal::BadState);
+    let check = checks::var_check(t);
+    if let Done::Refused(r) = check {
+        return Placed::Refused(r);
     }
     let n = inner::variable_count(t);
-    if sizes::VARIABLES <= n {
-        return Placed::Refused(Refusal::TableFull);
-    }
     let kind = val.kind().word();
     let value = payload(val);
-    t[6 + n] = kind;
-    t[22 + n] = value;
-    t[0] = (n as u64) + 1;
+    variables::put_var(t, kind, value);
     Placed::At(n as u32)
 }
 
@@ -88,14 +86,12 @@ pub fn var_type(t: &[u64], var: Var) -> VarType
 pub fn new_clock(t: &mut [u64]) -> Placed
     ensures { λ r. ⌜ (r ≡ newClockOf (now (t .entry)) .answer) × (now (t .exit) ≡ newClockOf (now (t .entry)) .table) ⌝ }
 {
-    if !formed::well_formed(t, true) {
-        return Placed::Refused(Refusal::BadState);
+    let check = checks::clock_check(t);
+    if let Done::Refused(r) = check {
+        return Placed::Refused(r);
     }
     let n = inner::clock_count(t);
-    if sizes::CLOCKS <= n {
-        return Placed::Refused(Refusal::TableFull);
-    }
-    t[1] = (n as u64) + 1;
+    variables::put_clock(t);
     Placed::At(n as u32)
 }
 
@@ -103,17 +99,12 @@ pub fn new_clock(t: &mut [u64]) -> Placed
 pub fn new_action(t: &mut [u64]) -> Placed
     ensures { λ r. ⌜ (r ≡ newActionOf (now (t .entry)) .answer) × (now (t .exit) ≡ newActionOf (now (t .entry)) .table) ⌝ }
 {
-    if !formed::well_formed(t, true) {
-        return Placed::Refused(Refusal::BadState);
+    let check = checks::action_check(t);
+    if let Done::Refused(r) = check {
+        return Placed::Refused(r);
     }
     let n = inner::action_count(t);
-    if sizes::ACTIONS <= n {
-        return Placed::Refused(Refusal::TableFull);
-    }
-    t[74 + 51 * n] = 0;
-    t[75 + 51 * n] = 0;
-    t[76 + 51 * n] = 0;
-    t[3] = (n as u64) + 1;
+    actions::put_action(t, layout::PLAIN, 0);
     Placed::At(n as u32)
 }
 
@@ -128,23 +119,12 @@ pub fn new_location(t: &mut [u64]) -> Placed
 pub fn new_process(t: &mut [u64], location: Location) -> Done
     ensures { λ r. ⌜ (r ≡ newProcessOf (now (t .entry)) (location .0) .answer) × (now (t .exit) ≡ newProcessOf (now (t .entry)) (location .0) .table) ⌝ }
 {
-    if !formed::well_formed(t, true) {
-        return Done::Refused(Refusal::BadState);
+    let l = location.0;
+    let check = checks::process_check(t, l);
+    if let Done::Refused(r) = check {
+        return Done::Refused(r);
     }
-    let l = location.0 as usize;
-    if inner::location_count(t) <= l {
-        return Done::Refused(Refusal::MissingLocation);
-    }
-    let k = inner::invariant_count(t, l);
-    if !inner::all_zero_inside(t, 128 + l, k) {
-        return Done::Refused(Refusal::Invariant);
-    }
-    let n = inner::process_count(t);
-    if sizes::PROCESSES <= n {
-        return Done::Refused(Refusal::TableFull);
-    }
-    t[38 + n] = l as u64;
-    t[4] = (n as u64) + 1;
+    locations::put_process(t, l as usize);
     Done::Accepted
 }
 
@@ -275,7 +255,7 @@ pub fn add_timed_transition(
     if let Done::Refused(r) = check {
         return Done::Refused(r);
     }
-    let key = transitions::key(l as u64, a, m as u64);
+    let key = inner::key_with(l as u64, a, m as u64);
     if guarded {
         transitions::put_transition(t, key, guard, limits);
         return Done::Accepted;

@@ -1,13 +1,20 @@
 // A run of one graph. It is handed in whole and comes back whole; the table that it runs on is lent beside it.
+use crate::answers::Fresh;
+use crate::answers::Held;
+use crate::answers::Received;
+use crate::answers::Sent;
+use crate::answers::States;
+use crate::answers::Stepped;
+use crate::answers::Time;
+use crate::answers::Value;
+use crate::answers::Waited;
 use crate::inner::fits;
 use crate::inner::fresh;
 use crate::inner::messages;
 use crate::inner::steps;
 use crate::inner::waits;
-use grammar::values::Slot;
-use grammar::values::Val;
+use crate::record::ProgramGraphRun;
 use graph_tables::answers::Done;
-use graph_tables::answers::Placed;
 use graph_tables::formed;
 use graph_tables::handed::Message;
 use graph_tables::ids::Action;
@@ -18,46 +25,6 @@ use graph_tables::refusals::Refusal;
 ghost use mathlib.Core.Path.{_≡_};
 ghost use Rattle.program_graph.specs.Running.{fitsTable, transitionOf, waitOf, canWaitOf, isWaitingOf, newRunOf, statesOf, valueIn, timeOf};
 ghost use Rattle.program_graph.specs.Messaging.{sendOf, receiveOf};
-
-pub struct ProgramGraphRun {
-    pub places: [u32; 4],
-    pub vars: [Slot; 16],
-    pub clocks: [u32; 8],
-    pub processes: usize,
-    pub variables: usize,
-    pub timers: usize,
-}
-
-// What a step or a wait answers, and the run after it.
-pub struct Stepped {
-    pub answer: Done,
-    pub run: ProgramGraphRun,
-}
-
-// What a send answers, its values if it is accepted, and the run after it.
-pub struct Sent {
-    pub answer: Done,
-    pub message: Message,
-    pub run: ProgramGraphRun,
-}
-
-// Where the processes are, if they are told.
-pub struct States {
-    pub answer: Done,
-    pub places: [u32; 4],
-    pub count: usize,
-}
-
-pub enum Value {
-    Is(Val),
-    Refused(Refusal),
-}
-
-// Whether something holds.
-pub enum Held {
-    Is(bool),
-    Refused(Refusal),
-}
 
 // The test behind 32.
 pub fn fits_table(t: &[u64], run: ProgramGraphRun) -> bool
@@ -71,13 +38,19 @@ pub fn fits_table(t: &[u64], run: ProgramGraphRun) -> bool
 
 impl ProgramGraphRun {
     // A fresh run of a graph.
-    pub fn new(t: &[u64]) -> Stepped
+    pub fn new(t: &[u64]) -> Fresh
         ensures { λ r. ⌜ r ≡ newRunOf (now (t .entry)) ⌝ }
     {
         if !formed::well_formed(t, false) {
-            return steps::refused(fresh::no_run(), Refusal::BadState);
+            return Fresh {
+                answer: Done::Refused(Refusal::BadState),
+                run: fresh::no_run(),
+            };
         }
-        steps::accepted(fresh::fresh(t))
+        Fresh {
+            answer: Done::Accepted,
+            run: fresh::fresh(t),
+        }
     }
 
     // A step of a plain action, or of the reserved one.
@@ -91,11 +64,11 @@ impl ProgramGraphRun {
     }
 
     // Time passes, if no clock overflows and every invariant holds at the end.
-    pub fn wait(self, t: &[u64], delta: u32) -> Stepped
+    pub fn wait(self, t: &[u64], delta: u32) -> Waited
         ensures { λ r. ⌜ r ≡ waitOf (now (t .entry)) self delta ⌝ }
     {
         if !fits_table(t, self) {
-            return steps::refused(self, Refusal::BadState);
+            return waits::refused(self, Refusal::BadState);
         }
         waits::wait_on(self, t, delta)
     }
@@ -120,11 +93,11 @@ impl ProgramGraphRun {
     }
 
     // The variables of a communication take the values. Nothing is reset.
-    pub fn receive(self, t: &[u64], action: Action, posts: &[u32], message: Message) -> Stepped
+    pub fn receive(self, t: &[u64], action: Action, posts: &[u32], message: Message) -> Received
         ensures { λ r. ⌜ r ≡ receiveOf (now (t .entry)) self (action .0) (now (posts .entry)) message ⌝ }
     {
         if !fits_table(t, self) {
-            return steps::refused(self, Refusal::BadState);
+            return messages::refused_receive(self, Refusal::BadState);
         }
         messages::receive_on(self, t, action.0, posts, message)
     }
@@ -176,17 +149,17 @@ impl ProgramGraphRun {
     }
 
     // The time of a clock.
-    pub fn time(self, t: &[u64], clock: Clock) -> Placed
+    pub fn time(self, t: &[u64], clock: Clock) -> Time
         ensures { λ r. ⌜ r ≡ timeOf (now (t .entry)) self (clock .0) ⌝ }
     {
         if !fits_table(t, self) {
-            return Placed::Refused(Refusal::BadState);
+            return Time::Refused(Refusal::BadState);
         }
         let c = clock.0 as usize;
         if inner::clock_count(t) <= c {
-            return Placed::Refused(Refusal::MissingClock);
+            return Time::Refused(Refusal::MissingClock);
         }
-        let clocks = self.clocks;
-        Placed::At(clocks[c])
+        let times = self.times;
+        Time::Is(times[c])
     }
 }

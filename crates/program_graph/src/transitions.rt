@@ -1,17 +1,11 @@
 // Listing what a run may do next, one entry at a time.
+use crate::answers::Listed;
 use crate::inner::listing;
+use crate::record::ProgramGraphRun;
 use crate::run;
-use crate::run::ProgramGraphRun;
-use graph_tables::answers::Entry;
 use graph_tables::refusals::Refusal;
 ghost use mathlib.Core.Path.{_≡_};
 ghost use Rattle.program_graph.specs.Transitions.{possibleOf, nosyncOf};
-
-pub enum Listed {
-    At(Entry),
-    End,
-    Refused(Refusal),
-}
 
 impl ProgramGraphRun {
     // Entry k of what the run may do next.

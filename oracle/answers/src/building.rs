@@ -1,4 +1,4 @@
-//! Building by document 01: the first check that objects, in its order.
+//! Building by docs/RULES.md: the first check that objects, in its order.
 
 use crate::answer::{Answer, EPSILON};
 use crate::call::{Building, Items, Limit, NewTransition};

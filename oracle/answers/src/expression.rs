@@ -1,4 +1,4 @@
-//! Expressions by document 01, along the postfix items. The stand-in grammar goes down a tree instead.
+//! Expressions by docs/RULES.md, along the postfix items. The stand-in grammar goes down a tree instead.
 
 use scan_core::{Type, Val};
 

@@ -1,4 +1,4 @@
-//! Answers the lines of the line language: by the Rust where it has an answer, and by document 01's rules everywhere.
+//! Answers the lines of the line language: by the Rust where it has an answer, and by the rules everywhere.
 
 mod alone;
 pub mod answer;

@@ -16,7 +16,7 @@ use std::ops::Bound;
 pub enum Mark {
     /// From the Rust, and the rules say the same.
     Rust,
-    /// From document 01's rules alone.
+    /// From the rules alone.
     Rules,
 }
 
@@ -28,7 +28,7 @@ pub struct Reply {
     pub departs: Option<String>,
 }
 
-/// The rules and the Rust differ where document 01 does not say so.
+/// The rules and the Rust differ where docs/DIFFERENCES.md does not say so.
 #[derive(Debug)]
 pub struct Disagreement(pub String);
 

@@ -1,4 +1,4 @@
-//! Running one graph by document 01, on a well-formed table that has a process and a run that fits it.
+//! Running one graph by docs/RULES.md, on a well-formed table that has a process and a run that fits it.
 
 use crate::answer::{Answer, EPSILON};
 use crate::call::{Items, Limit, Running};

@@ -1,4 +1,4 @@
-//! Building a system by document 01: the first check that objects, in its order.
+//! Building a system by docs/RULES.md: the first check that objects, in its order.
 
 use crate::answer::Answer;
 use crate::building::{self, Objection};

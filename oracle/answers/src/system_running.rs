@@ -1,4 +1,4 @@
-//! Running a system by document 01, on a well-formed table whose graphs all have a process and a state that fits it.
+//! Running a system by docs/RULES.md, on a well-formed table whose graphs all have a process and a state that fits it.
 
 use crate::answer::Answer;
 use crate::call::Running;

@@ -1,4 +1,4 @@
-//! Building up to and over every table size of document 01, with other faults at the edge.
+//! Building up to and over every table size of docs/RULES.md, with other faults at the edge.
 
 use crate::graph::{Build, EPSILON, Item, Kind, Val};
 use crate::maker::Maker;

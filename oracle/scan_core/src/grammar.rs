@@ -1,15 +1,15 @@
-//! Test code for the grammar, by the rules that document 01 marks P (Expressions).
+//! Test code for the grammar, by the port's own rules (docs/RULES.md).
 //!
 //! An expression is handed as postfix items and kept as a tree: typing and evaluation go down the tree. The answering
 //! program has a second reading of the same rules that goes along the items; the two are compared at every line.
 //!
-//! What 01 says of the number of items, of operands waiting and of draws is no business of this module.
+//! What the rules say of the number of items, of operands waiting and of draws is no business of this module.
 
 use rand::Rng;
 use std::panic::resume_unwind;
 use thiserror::Error;
 
-/// Why an expression is refused. 01 leaves the detail out: all of it is 6.
+/// Why an expression is refused. The rules leave the detail out: all of it is 6.
 #[derive(Debug, Clone, Copy, Error)]
 pub enum TypeError {
     #[error("ill-typed")]
@@ -278,7 +278,7 @@ impl Binary {
             Binary::Sub => l.checked_sub(r).map(Val::Integer),
             Binary::Mul => l.checked_mul(r).map(Val::Integer),
             Binary::Div => l.checked_div(r).map(Val::Integer),
-            // 01: -2147483648 % -1 is 0.
+            // -2147483648 % -1 is 0.
             Binary::Rem => (r != 0).then(|| Val::Integer(l.wrapping_rem(r))),
             Binary::Equal => Some(Val::Boolean(l == r)),
             Binary::Less => Some(Val::Boolean(l < r)),

@@ -1,6 +1,6 @@
-//! Test code for the builder of channel systems, by the rules that document 01 marks P (Building, System).
+//! Test code for the builder of channel systems, by the port's own rules (docs/RULES.md).
 //!
-//! It keeps the tables that the text's lookup of communications reads. What 01 says of sizes is no business of this module:
+//! It keeps the tables that the text's lookup of communications reads. What the rules say of sizes is no business of this module:
 //! here a system grows.
 
 use super::super::{

@@ -2,63 +2,73 @@
 use crate::inner::rows;
 use graph_tables::handed::Vars;
 use graph_tables::inner;
+use graph_tables::inner::places;
+use graph_tables::inner::writers;
+use graph_tables::layout;
 ghost use mathlib.Core.Path.{_≡_};
 ghost use Prim.Native.Nat.{ℕ, _≤_, _<_};
 ghost use lib.ListN.{length};
+ghost use Rattle.graph_tables.specs.Sizes.{actionRoom, effectRoom, resetRoom, messageRoom, itemRoom};
 ghost use Rattle.graph_tables.specs.Words.{Words, actionCount, resetCount, effectCount};
 ghost use Rattle.graph_edits.specs.Edits.{withAction, resetPlace, withReset, withExpression, withEffect, chosen, withExpressions, withSend, withTargets, withReceive};
 
 // An action of this kind, with so many effects and no resets.
 pub fn put_action(t: &mut [u64], kind: u64, effects: usize)
-    requires { ⌜ Words (now t) × (actionCount (now t) < 32) ⌝ }
+    requires { ⌜ Words (now t) × (actionCount (now t) < actionRoom) ⌝ }
     ensures { λ _. ⌜ now (t .exit) ≡ withAction (now (t .entry)) kind effects ⌝ }
 {
     let n = inner::action_count(t);
-    t[74 + 51 * n] = kind;
-    t[75 + 51 * n] = 0;
-    t[76 + 51 * n] = effects as u64;
-    t[3] = (n as u64) + 1;
+    writers::set_action_kind(t, n, kind);
+    writers::set_reset_count(t, n, 0);
+    writers::set_effect_count(t, n, effects);
+    writers::set_action_count(t, n + 1);
 }
 
 // The first reset of an action that is above the clock.
 fn reset_place(t: &[u64], a: usize, clock: usize) -> usize
-    requires { ⌜ Words (now t) × (a < 32) × (resetCount (now t) a ≤ 16) ⌝ }
+    requires { ⌜ Words (now t) × (a < actionRoom) × (resetCount (now t) a ≤ resetRoom) ⌝ }
     ensures { λ r. ⌜ r ≡ resetPlace (now (t .entry)) a clock ⌝ }
     ensures { λ r. ⌜ r ≤ resetCount (now (t .entry)) a ⌝ }
 {
-    rows::place(t, 77 + 51 * a, 1, inner::reset_count(t, a), clock as u64)
+    rows::place(
+        t,
+        places::reset_cell(a, 0),
+        1,
+        inner::reset_count(t, a),
+        clock as u64,
+    )
 }
 
 // The later resets move up by one.
 pub fn put_reset(t: &mut [u64], a: usize, clock: usize)
-    requires { ⌜ Words (now t) × (a < 32) × (resetCount (now t) a < 16) ⌝ }
+    requires { ⌜ Words (now t) × (a < actionRoom) × (resetCount (now t) a < resetRoom) ⌝ }
     ensures { λ _. ⌜ now (t .exit) ≡ withReset (now (t .entry)) a clock ⌝ }
 {
     let n = inner::reset_count(t, a);
     let p = reset_place(t, a, clock);
-    rows::open_gap(t, 77 + 51 * a + p, 77 + 51 * a + n, 1);
-    t[77 + 51 * a + p] = clock as u64;
-    t[75 + 51 * a] = (n as u64) + 1;
+    rows::open_gap(t, places::reset_cell(a, p), places::reset_cell(a, n), 1);
+    writers::set_reset(t, a, p, clock);
+    writers::set_reset_count(t, a, n + 1);
 }
 
 // The items of expression e of an action.
 fn put_expression(t: &mut [u64], a: usize, e: usize, items: &[u64])
-    requires { ⌜ Words (now t) × (a < 32) × (e < 16) × (length (now items) ≤ 64) ⌝ }
+    requires { ⌜ Words (now t) × (a < actionRoom) × (e < effectRoom) × (length (now items) ≤ itemRoom) ⌝ }
     ensures { λ _. ⌜ now (t .exit) ≡ withExpression (now (t .entry)) a e (now (items .entry)) ⌝ }
 {
-    t[109 + 51 * a + e] = items.len() as u64;
-    rows::write_words(t, 14122 + 64 * (32 * e + a), items);
+    writers::set_effect_length(t, a, e, items.len());
+    rows::write_words(t, places::effect_slot(a, e), items);
 }
 
 // An effect behind the others.
 pub fn put_effect(t: &mut [u64], a: usize, v: usize, items: &[u64])
-    requires { ⌜ Words (now t) × (a < 32) × (effectCount (now t) a < 16) × (length (now items) ≤ 64) ⌝ }
+    requires { ⌜ Words (now t) × (a < actionRoom) × (effectCount (now t) a < effectRoom) × (length (now items) ≤ itemRoom) ⌝ }
     ensures { λ _. ⌜ now (t .exit) ≡ withEffect (now (t .entry)) a v (now (items .entry)) ⌝ }
 {
     let e = inner::effect_count(t, a);
     put_expression(t, a, e, items);
-    t[93 + 51 * a + e] = v as u64;
-    t[76 + 51 * a] = (e as u64) + 1;
+    writers::set_effect_var(t, a, e, v);
+    writers::set_effect_count(t, a, e + 1);
 }
 
 // Expression i of a message.
@@ -86,7 +96,7 @@ fn put_expressions<'a>(
     z: &'a [u64],
     count: usize,
 )
-    requires { ⌜ Words (now t) × (a < 32) × (count ≤ 4) × ((i : ℕ) → i < count → length (chosen (now w) (now x) (now y) (now z) i) ≤ 64) ⌝ }
+    requires { ⌜ Words (now t) × (a < actionRoom) × (count ≤ messageRoom) × ((i : ℕ) → i < count → length (chosen (now w) (now x) (now y) (now z) i) ≤ itemRoom) ⌝ }
     ensures { λ _. ⌜ now (t .exit) ≡ withExpressions (now (t .entry)) a (chosen (now (w .entry)) (now (x .entry)) (now (y .entry)) (now (z .entry))) count ⌝ }
 {
     for e in 0..count {
@@ -103,30 +113,30 @@ pub fn put_send<'a>(
     z: &'a [u64],
     count: usize,
 )
-    requires { ⌜ Words (now t) × (actionCount (now t) < 32) × (count ≤ 4) × ((i : ℕ) → i < count → length (chosen (now w) (now x) (now y) (now z) i) ≤ 64) ⌝ }
+    requires { ⌜ Words (now t) × (actionCount (now t) < actionRoom) × (count ≤ messageRoom) × ((i : ℕ) → i < count → length (chosen (now w) (now x) (now y) (now z) i) ≤ itemRoom) ⌝ }
     ensures { λ _. ⌜ now (t .exit) ≡ withSend (now (t .entry)) (chosen (now (w .entry)) (now (x .entry)) (now (y .entry)) (now (z .entry))) count ⌝ }
 {
     let n = inner::action_count(t);
     put_expressions(t, n, w, x, y, z, count);
-    put_action(t, 1, count);
+    put_action(t, layout::SEND, count);
 }
 
 fn put_targets(t: &mut [u64], a: usize, handed: Vars)
-    requires { ⌜ Words (now t) × (a < 32) × (handed .count ≤ 4) ⌝ }
+    requires { ⌜ Words (now t) × (a < actionRoom) × (handed .count ≤ messageRoom) ⌝ }
     ensures { λ _. ⌜ now (t .exit) ≡ withTargets (now (t .entry)) a handed (handed .count) ⌝ }
 {
     for e in 0..handed.count {
         let var = handed.vars[e];
-        t[93 + 51 * a + e] = var.0 as u64;
+        writers::set_effect_var(t, a, e, var.0 as usize);
     }
 }
 
 // A receive into the handed variables.
 pub fn put_receive(t: &mut [u64], handed: Vars)
-    requires { ⌜ Words (now t) × (actionCount (now t) < 32) × (handed .count ≤ 4) ⌝ }
+    requires { ⌜ Words (now t) × (actionCount (now t) < actionRoom) × (handed .count ≤ messageRoom) ⌝ }
     ensures { λ _. ⌜ now (t .exit) ≡ withReceive (now (t .entry)) handed ⌝ }
 {
     let n = inner::action_count(t);
     put_targets(t, n, handed);
-    put_action(t, 2, handed.count);
+    put_action(t, layout::RECEIVE, handed.count);
 }

@@ -1,5 +1,5 @@
 // Whether a run is one of a table's.
-use crate::run::ProgramGraphRun;
+use crate::record::ProgramGraphRun;
 use grammar::values::Slot;
 use graph_tables::inner;
 ghost use mathlib.Core.Path.{_≡_};
@@ -53,7 +53,7 @@ fn counts_same(t: &[u64], run: ProgramGraphRun) -> bool
     if run.variables != inner::variable_count(t) {
         return false;
     }
-    run.timers == inner::clock_count(t)
+    run.clocks == inner::clock_count(t)
 }
 
 // The run is one of the table's.

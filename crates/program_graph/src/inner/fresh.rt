@@ -1,5 +1,5 @@
 // A fresh run of a graph.
-use crate::run::ProgramGraphRun;
+use crate::record::ProgramGraphRun;
 use grammar::bits;
 use grammar::values::Slot;
 use grammar::values::Val;
@@ -58,10 +58,10 @@ pub fn fresh(t: &[u64]) -> ProgramGraphRun
     ProgramGraphRun {
         places,
         vars,
-        clocks: [0; 8],
+        times: [0; 8],
         processes,
         variables,
-        timers: inner::clock_count(t),
+        clocks: inner::clock_count(t),
     }
 }
 
@@ -74,9 +74,9 @@ pub fn no_run() -> ProgramGraphRun
     ProgramGraphRun {
         places: [0; 4],
         vars: [blank; 16],
-        clocks: [0; 8],
+        times: [0; 8],
         processes: 0,
         variables: 0,
-        timers: 0,
+        clocks: 0,
     }
 }

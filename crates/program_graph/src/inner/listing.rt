@@ -1,6 +1,6 @@
 // Entries of a run's list on a table that it fits.
-use crate::run::ProgramGraphRun;
-use crate::transitions::Listed;
+use crate::answers::Listed;
+use crate::record::ProgramGraphRun;
 use graph_steps::inner::listing;
 use graph_steps::inner::listing::Sought;
 ghost use mathlib.Core.Path.{_≡_};
@@ -24,7 +24,7 @@ pub fn listed_on(run: ProgramGraphRun, t: &[u64], k: usize) -> Listed
     ensures { λ r. ⌜ r ≡ entryOrEnd (seek (listed (now (t .entry)) run) k) ⌝ }
 {
     let vars = run.vars;
-    let clocks = run.clocks;
+    let times = run.times;
     let places = run.places;
-    entry_or_end(listing::seek_entry(t, vars, clocks, places, run.processes, k))
+    entry_or_end(listing::seek_entry(t, vars, times, places, run.processes, k))
 }

@@ -1,25 +1,28 @@
 // The graph's own send and receive, of a run on a table that it fits. Neither resets a clock.
+use crate::answers::Received;
+use crate::answers::Sent;
 use crate::inner::steps;
-use crate::run::ProgramGraphRun;
-use crate::run::Sent;
-use crate::run::Stepped;
+use crate::record::ProgramGraphRun;
 use graph_steps::inner::messages;
 use graph_tables::answers::Done;
 use graph_tables::handed::Message;
 use graph_tables::ids::Action;
 use graph_tables::inner;
+use graph_tables::layout;
 use graph_tables::refusals::Refusal;
 ghost use mathlib.Core.Path.{_≡_};
 ghost use mathlib.Core.Bool.{true};
 ghost use Prim.Native.Nat.{_<_};
 ghost use lib.ListN.{length};
 ghost use Rattle.graph_tables.specs.Words.{actionCount, actionKind};
+ghost use Rattle.graph_tables.specs.Refusals.{numberOf};
+ghost use Rattle.graph_tables.specs.Sizes.{sendKind, receiveKind};
 ghost use Rattle.graph_tables.specs.Sound.{Sound};
 ghost use Rattle.program_graph.specs.Running.{runFormed};
-ghost use Rattle.program_graph.specs.Messaging.{refusedSend, isKind, saidOf, sentOf, heardOf, receivedOf};
+ghost use Rattle.program_graph.specs.Messaging.{refusedSend, refusedReceive, isKind, saidOf, sentOf, heardOf, receivedOf};
 
 pub fn refused_send(run: ProgramGraphRun, r: Refusal) -> Sent
-    ensures { λ x. ⌜ x ≡ refusedSend r run ⌝ }
+    ensures { λ x. ⌜ x ≡ refusedSend (numberOf r) run ⌝ }
 {
     Sent {
         answer: Done::Refused(r),
@@ -41,11 +44,11 @@ fn is_kind(t: &[u64], a: usize, kind: u64) -> bool
 
 // A send that is open.
 pub fn say(run: ProgramGraphRun, t: &[u64], a: usize, posts: &[u32], word: u64) -> Sent
-    requires { ⌜ Sound (now t) × (runFormed (now t) run ≡ true) × (length (now posts) ≡ run .processes) × (a < actionCount (now t)) × (actionKind (now t) a ≡ 1) ⌝ }
+    requires { ⌜ Sound (now t) × (runFormed (now t) run ≡ true) × (length (now posts) ≡ run .processes) × (a < actionCount (now t)) × (actionKind (now t) a ≡ sendKind) ⌝ }
     ensures { λ r. ⌜ r ≡ saidOf (now (t .entry)) run a (now (posts .entry)) word ⌝ }
 {
     let vars = run.vars;
-    let clocks = run.clocks;
+    let times = run.times;
     let spoken = messages::spoken(t, a, vars, word);
     if !spoken.fits {
         return refused_send(run, Refusal::Overflow);
@@ -55,7 +58,7 @@ pub fn say(run: ProgramGraphRun, t: &[u64], a: usize, posts: &[u32], word: u64) 
     Sent {
         answer: Done::Accepted,
         message: messages::message(values, count),
-        run: steps::moved_to(run, posts, vars, clocks),
+        run: steps::moved_to(run, posts, vars, times),
     }
 }
 
@@ -74,24 +77,36 @@ pub fn send_on(run: ProgramGraphRun, t: &[u64], action: u32, posts: &[u32], word
         return refused_send(run, Refusal::UnsatisfiedGuard);
     }
     let a = action as usize;
-    if !is_kind(t, a, 1) {
+    if !is_kind(t, a, layout::SEND) {
         return refused_send(run, Refusal::NotSend);
     }
     say(run, t, a, posts, word)
 }
 
+pub fn refused_receive(run: ProgramGraphRun, r: Refusal) -> Received
+    ensures { λ x. ⌜ x ≡ refusedReceive (numberOf r) run ⌝ }
+{
+    Received {
+        answer: Done::Refused(r),
+        run,
+    }
+}
+
 // A receive that is open.
-pub fn hear(run: ProgramGraphRun, t: &[u64], a: usize, posts: &[u32], message: Message) -> Stepped
-    requires { ⌜ Sound (now t) × (runFormed (now t) run ≡ true) × (length (now posts) ≡ run .processes) × (a < actionCount (now t)) × (actionKind (now t) a ≡ 2) ⌝ }
+pub fn hear(run: ProgramGraphRun, t: &[u64], a: usize, posts: &[u32], message: Message) -> Received
+    requires { ⌜ Sound (now t) × (runFormed (now t) run ≡ true) × (length (now posts) ≡ run .processes) × (a < actionCount (now t)) × (actionKind (now t) a ≡ receiveKind) ⌝ }
     ensures { λ r. ⌜ r ≡ heardOf (now (t .entry)) run a (now (posts .entry)) message ⌝ }
 {
     if !messages::message_fits(t, a, message) {
-        return steps::refused(run, Refusal::TypeMismatch);
+        return refused_receive(run, Refusal::TypeMismatch);
     }
     let vars = run.vars;
-    let clocks = run.clocks;
+    let times = run.times;
     let taken = messages::taken(t, a, message, vars);
-    steps::accepted(steps::moved_to(run, posts, taken, clocks))
+    Received {
+        answer: Done::Accepted,
+        run: steps::moved_to(run, posts, taken, times),
+    }
 }
 
 // A receive on a table and a run that are known to fit.
@@ -101,22 +116,22 @@ pub fn receive_on(
     action: u32,
     posts: &[u32],
     message: Message,
-) -> Stepped
+) -> Received
     requires { ⌜ Sound (now t) × (runFormed (now t) run ≡ true) ⌝ }
     ensures { λ r. ⌜ r ≡ receivedOf (now (t .entry)) run action (now (posts .entry)) message ⌝ }
 {
     if action == Action::EPSILON.0 {
-        return steps::refused(run, Refusal::NotReceive);
+        return refused_receive(run, Refusal::NotReceive);
     }
     if posts.len() != run.processes {
-        return steps::refused(run, Refusal::MismatchingPostStates);
+        return refused_receive(run, Refusal::MismatchingPostStates);
     }
     if !steps::ready_still(run, t, action, posts) {
-        return steps::refused(run, Refusal::UnsatisfiedGuard);
+        return refused_receive(run, Refusal::UnsatisfiedGuard);
     }
     let a = action as usize;
-    if !is_kind(t, a, 2) {
-        return steps::refused(run, Refusal::NotReceive);
+    if !is_kind(t, a, layout::RECEIVE) {
+        return refused_receive(run, Refusal::NotReceive);
     }
     hear(run, t, a, posts, message)
 }

@@ -1,12 +1,13 @@
 // A step of a run on a table that it fits.
-use crate::run::ProgramGraphRun;
-use crate::run::Stepped;
+use crate::answers::Stepped;
+use crate::record::ProgramGraphRun;
 use grammar::values::Slot;
 use graph_steps::inner::candidates;
 use graph_steps::inner::effects;
 use graph_tables::answers::Done;
 use graph_tables::ids::Action;
 use graph_tables::inner;
+use graph_tables::layout;
 use graph_tables::refusals::Refusal;
 ghost use mathlib.Core.Path.{_≡_};
 ghost use mathlib.Core.Bool.{true};
@@ -14,11 +15,13 @@ ghost use Prim.Native.Nat.{_≤_, _<_};
 ghost use lib.ListN.{length};
 ghost use Rattle.laws.specs.Below.{_and_};
 ghost use Rattle.graph_tables.specs.Words.{actionCount, actionKind};
+ghost use Rattle.graph_tables.specs.Refusals.{numberOf};
+ghost use Rattle.graph_tables.specs.Sizes.{plainKind};
 ghost use Rattle.graph_tables.specs.Sound.{Sound};
-ghost use Rattle.program_graph.specs.Running.{refusedRun, acceptedRun, runFormed, movedTo, readyStill, idleOf, plainOf, actedOf, stepOf};
+ghost use Rattle.program_graph.specs.Running.{refused, accepted, runFormed, movedTo, readyStill, autonomousOf, plainOf, actedOf, stepOf};
 
 pub fn refused(run: ProgramGraphRun, r: Refusal) -> Stepped
-    ensures { λ x. ⌜ x ≡ refusedRun r run ⌝ }
+    ensures { λ x. ⌜ x ≡ refused (numberOf r) run ⌝ }
 {
     Stepped {
         answer: Done::Refused(r),
@@ -27,7 +30,7 @@ pub fn refused(run: ProgramGraphRun, r: Refusal) -> Stepped
 }
 
 pub fn accepted(run: ProgramGraphRun) -> Stepped
-    ensures { λ x. ⌜ x ≡ acceptedRun run ⌝ }
+    ensures { λ x. ⌜ x ≡ accepted run ⌝ }
 {
     Stepped {
         answer: Done::Accepted,
@@ -39,10 +42,10 @@ pub fn moved_to(
     run: ProgramGraphRun,
     posts: &[u32],
     vars: [Slot; 16],
-    clocks: [u32; 8],
+    times: [u32; 8],
 ) -> ProgramGraphRun
     requires { ⌜ (run .processes ≤ 4) × (run .processes ≤ length (now posts)) ⌝ }
-    ensures { λ r. ⌜ r ≡ movedTo run (now (posts .entry)) vars clocks ⌝ }
+    ensures { λ r. ⌜ r ≡ movedTo run (now (posts .entry)) vars times ⌝ }
 {
     let before = run.places;
     let processes = run.processes;
@@ -50,10 +53,10 @@ pub fn moved_to(
     ProgramGraphRun {
         places,
         vars,
-        clocks,
+        times,
         processes,
         variables: run.variables,
-        timers: run.timers,
+        clocks: run.clocks,
     }
 }
 
@@ -63,46 +66,37 @@ pub fn ready_still(run: ProgramGraphRun, t: &[u64], action: u32, posts: &[u32]) 
     ensures { λ r. ⌜ r ≡ readyStill (now (t .entry)) run action (now (posts .entry)) ⌝ }
 {
     let vars = run.vars;
-    let clocks = run.clocks;
+    let times = run.times;
     let places = run.places;
-    candidates::ready(
-        t,
-        vars,
-        clocks,
-        clocks,
-        places,
-        run.processes,
-        action,
-        posts,
-    )
+    candidates::ready(t, vars, times, times, places, run.processes, action, posts)
 }
 
 // A step by the reserved action.
-fn idle(run: ProgramGraphRun, t: &[u64], posts: &[u32]) -> Stepped
+fn autonomous(run: ProgramGraphRun, t: &[u64], posts: &[u32]) -> Stepped
     requires { ⌜ Sound (now t) × (runFormed (now t) run ≡ true) × (length (now posts) ≡ run .processes) ⌝ }
-    ensures { λ r. ⌜ r ≡ idleOf (now (t .entry)) run (now (posts .entry)) ⌝ }
+    ensures { λ r. ⌜ r ≡ autonomousOf (now (t .entry)) run (now (posts .entry)) ⌝ }
 {
     if !ready_still(run, t, Action::EPSILON.0, posts) {
         return refused(run, Refusal::UnsatisfiedGuard);
     }
     let vars = run.vars;
-    let clocks = run.clocks;
-    accepted(moved_to(run, posts, vars, clocks))
+    let times = run.times;
+    accepted(moved_to(run, posts, vars, times))
 }
 
 // A step by a plain action.
 fn plain(run: ProgramGraphRun, t: &[u64], a: usize, posts: &[u32], word: u64) -> Stepped
-    requires { ⌜ Sound (now t) × (runFormed (now t) run ≡ true) × (length (now posts) ≡ run .processes) × (a < actionCount (now t)) × (actionKind (now t) a ≡ 0) ⌝ }
+    requires { ⌜ Sound (now t) × (runFormed (now t) run ≡ true) × (length (now posts) ≡ run .processes) × (a < actionCount (now t)) × (actionKind (now t) a ≡ plainKind) ⌝ }
     ensures { λ r. ⌜ r ≡ plainOf (now (t .entry)) run a (now (posts .entry)) word ⌝ }
 {
     let vars = run.vars;
-    let clocks = run.clocks;
+    let times = run.times;
     let places = run.places;
-    let after = effects::clocks_after(t, a, clocks);
+    let after = effects::clocks_after(t, a, times);
     if !candidates::ready(
         t,
         vars,
-        clocks,
+        times,
         after,
         places,
         run.processes,
@@ -127,7 +121,7 @@ fn acted(run: ProgramGraphRun, t: &[u64], action: u32, posts: &[u32], word: u64)
     if inner::action_count(t) <= a {
         return refused(run, Refusal::MissingAction);
     }
-    if inner::action_kind(t, a) != 0 {
+    if inner::action_kind(t, a) != layout::PLAIN {
         return refused(run, Refusal::Communication);
     }
     plain(run, t, a, posts, word)
@@ -145,7 +139,7 @@ pub fn step(run: ProgramGraphRun, t: &[u64], action: u32, posts: &[u32], word: u
         return refused(run, Refusal::MissingLocation);
     }
     if action == Action::EPSILON.0 {
-        return idle(run, t, posts);
+        return autonomous(run, t, posts);
     }
     acted(run, t, action, posts, word)
 }

@@ -1,4 +1,4 @@
-//! Stand-in for `rand`: draws come from a word that is given with the call, lowest bit first (document 01, Expressions).
+//! Stand-in for `rand`: draws come from a word that is given with the call, lowest bit first (docs/RULES.md, Expressions).
 
 /// What an evaluation may draw from.
 pub trait Rng {

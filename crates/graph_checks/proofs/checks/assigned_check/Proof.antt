@@ -1,10 +1,9 @@
 use borrow.Author.Tests.{lt-ltb, le-ltb}
 use Rattle.laws.proofs.Tests.{held, failed}
 use Rattle.laws.proofs.Ladder.{passed, stopped}
-use Rattle.graph_tables.specs.declared.refusals.Refusal.the-variants as R
+use Rattle.grammar.specs.Typing.{kinded, tooLong}
 use Rattle.graph_tables.specs.Words.{variableCount}
-use Rattle.graph_tables.specs.declared.answers.Done.the-variants.{Refused}
-use Rattle.graph_checks.specs.Checks.{tooLong, kinded, assignedCheck}
+use Rattle.graph_checks.specs.Checks.{refusedBy, assignedCheck}
 use mathlib.Core.Bool.{true, not}
 use Prim.Native.Nat.{_<_}
 use mathlib.Core.Path.{_≡_, refl, sym, ap, _∙_}
@@ -25,19 +24,19 @@ known d = rw (d .before .variable-count .ensures) at (d .if3 .left)
 
 returns : tie.Need-returns
 unfolding assignedCheck
-returns c = stopped (Refused R.TableFull) _ (ap not (sym (c .before .too-long .ensures) ∙ c .if1 .taken))
+returns c = stopped (refusedBy 28) _ (ap not (sym (c .before .too-long .ensures) ∙ c .if1 .taken))
 
 returns-2 : tie.Need-returns-2
 unfolding assignedCheck
-returns-2 c = passed (Refused R.TableFull) (short (c .before .before)) (stopped (Refused R.«Type») _ (failed (c .before .has-kind .ensures) (c .if2 .taken)))
+returns-2 c = passed (refusedBy 28) (short (c .before .before)) (stopped (refusedBy 6) _ (failed (c .before .has-kind .ensures) (c .if2 .taken)))
 
 returns-3 : tie.Need-returns-3
 unfolding assignedCheck
 returns-3 c =
     let b = c .before .before in
-    passed (Refused R.TableFull) (short (b .before .before))
-    (passed (Refused R.«Type») (kind b)
-    (stopped (Refused R.MissingVar) _ (le-ltb _ _ (rw (c .before .variable-count .ensures) at (c .if3 .taken)))))
+    passed (refusedBy 28) (short (b .before .before))
+    (passed (refusedBy 6) (kind b)
+    (stopped (refusedBy 4) _ (le-ltb _ _ (rw (c .before .variable-count .ensures) at (c .if3 .taken)))))
 
 kind-at-requires : tie.Need-kind-at-requires
 kind-at-requires c κs =
@@ -50,10 +49,10 @@ returns-4 c =
     let k = c .before in
     let d = k .before .before in
     let b = d .before .before in
-    passed (Refused R.TableFull) (short (b .before .before))
-    (passed (Refused R.«Type») (kind b)
-    (passed (Refused R.MissingVar) (lt-ltb _ _ (known d))
-    (stopped (Refused R.TypeMismatch) _ (failed (rw (k .before .kind-at .ensures) at (k .kinded-as .ensures)) (c .if4 .taken)))))
+    passed (refusedBy 28) (short (b .before .before))
+    (passed (refusedBy 6) (kind b)
+    (passed (refusedBy 4) (lt-ltb _ _ (known d))
+    (stopped (refusedBy 5) _ (failed (rw (k .before .kind-at .ensures) at (k .kinded-as .ensures)) (c .if4 .taken)))))
 
 returns-5 : tie.Need-returns-5
 unfolding assignedCheck
@@ -61,10 +60,10 @@ returns-5 c =
     let k = c .before in
     let d = k .before .before in
     let b = d .before .before in
-    passed (Refused R.TableFull) (short (b .before .before))
-    (passed (Refused R.«Type») (kind b)
-    (passed (Refused R.MissingVar) (lt-ltb _ _ (known d))
-    (passed (Refused R.TypeMismatch) (held (rw (k .before .kind-at .ensures) at (k .kinded-as .ensures)) (c .if4 .left)) refl)))
+    passed (refusedBy 28) (short (b .before .before))
+    (passed (refusedBy 6) (kind b)
+    (passed (refusedBy 4) (lt-ltb _ _ (known d))
+    (passed (refusedBy 5) (held (rw (k .before .kind-at .ensures) at (k .kinded-as .ensures)) (c .if4 .left)) refl)))
 
 pub assigned-check-spec : {M : Type 1} → statement M
 assigned-check-spec =

@@ -2,10 +2,8 @@ use mathlib.Core.Path.{refl}
 use borrow.Author.Tests.{lt-ltb, le-ltb}
 use Rattle.laws.proofs.Ladder.{passed, stopped}
 use Rattle.laws.proofs.Tests.{held, failed}
-use Rattle.graph_tables.specs.declared.refusals.Refusal.the-variants as R
-use Rattle.graph_tables.specs.declared.answers.Done.the-variants.{Refused}
 use Prim.Native.Nat.{_-_}
-use Rattle.graph_checks.specs.Checks.{endsCheck}
+use Rattle.graph_checks.specs.Checks.{refusedBy, endsCheck}
 use Rattle.graph_checks.proofs.checks.ends_check.Statement.{statement}
 use Rattle.graph_checks.proofs.checks.ends_check.Tie as tie
 
@@ -13,15 +11,15 @@ returns : tie.Need-returns
 unfolding endsCheck
 returns c =
     let n = c .before in
-    stopped (Refused R.MissingLocation) _ (le-ltb _ _ (rw (n .location-count .ensures) at (c .if1 .taken)))
+    stopped (refusedBy 3) _ (le-ltb _ _ (rw (n .location-count .ensures) at (c .if1 .taken)))
 
 returns-2 : tie.Need-returns-2
 unfolding endsCheck
 returns-2 c =
     let b = c .before in
     let n = b .before in
-    passed (Refused R.MissingLocation) (lt-ltb _ _ (rw (n .location-count .ensures) at (b .if1 .left)))
-    (stopped (Refused R.MissingLocation) _ (le-ltb _ _ (rw (n .location-count .ensures) at (c .if2 .taken))))
+    passed (refusedBy 3) (lt-ltb _ _ (rw (n .location-count .ensures) at (b .if1 .left)))
+    (stopped (refusedBy 3) _ (le-ltb _ _ (rw (n .location-count .ensures) at (c .if2 .taken))))
 
 returns-3 : tie.Need-returns-3
 unfolding endsCheck
@@ -30,9 +28,9 @@ returns-3 c =
     let d = a .before in
     let b = d .before in
     let n = b .before in
-    passed (Refused R.MissingLocation) (lt-ltb _ _ (rw (n .location-count .ensures) at (b .if1 .left)))
-    (passed (Refused R.MissingLocation) (lt-ltb _ _ (rw (n .location-count .ensures) at (d .if2 .left)))
-    (stopped (Refused R.MissingAction) _ (failed (a .action-known .ensures) (c .if3 .taken))))
+    passed (refusedBy 3) (lt-ltb _ _ (rw (n .location-count .ensures) at (b .if1 .left)))
+    (passed (refusedBy 3) (lt-ltb _ _ (rw (n .location-count .ensures) at (d .if2 .left)))
+    (stopped (refusedBy 1) _ (failed (a .action-known .ensures) (c .if3 .taken))))
 
 returns-4 : tie.Need-returns-4
 unfolding endsCheck
@@ -41,9 +39,9 @@ returns-4 c =
     let d = a .before in
     let b = d .before in
     let n = b .before in
-    passed (Refused R.MissingLocation) (lt-ltb _ _ (rw (n .location-count .ensures) at (b .if1 .left)))
-    (passed (Refused R.MissingLocation) (lt-ltb _ _ (rw (n .location-count .ensures) at (d .if2 .left)))
-    (passed (Refused R.MissingAction) (held (a .action-known .ensures) (c .if3 .left)) refl))
+    passed (refusedBy 3) (lt-ltb _ _ (rw (n .location-count .ensures) at (b .if1 .left)))
+    (passed (refusedBy 3) (lt-ltb _ _ (rw (n .location-count .ensures) at (d .if2 .left)))
+    (passed (refusedBy 1) (held (a .action-known .ensures) (c .if3 .left)) refl))
 
 pub ends-check-spec : {M : Type 1} → statement M
 ends-check-spec =

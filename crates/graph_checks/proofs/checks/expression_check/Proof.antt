@@ -1,9 +1,7 @@
 use Rattle.laws.proofs.Tests.{held, failed}
 use Rattle.laws.proofs.Ladder.{passed, stopped}
-use Rattle.grammar.specs.Typing.{typeOf}
-use Rattle.graph_tables.specs.declared.refusals.Refusal.the-variants as R
-use Rattle.graph_tables.specs.declared.answers.Done.the-variants.{Refused}
-use Rattle.graph_checks.specs.Checks.{tooLong, kinded, typedCheck}
+use Rattle.grammar.specs.Typing.{typeOf, kinded, tooLong}
+use Rattle.graph_checks.specs.Checks.{refusedBy, typedCheck}
 use mathlib.Core.Bool.{not}
 use mathlib.Core.Path.{_≡_, refl, sym, ap, _∙_}
 use borrow.Author.Needs.{needs}
@@ -18,21 +16,21 @@ kind k = k .has-kind .ensures ∙ ap kinded (k .before .before .before .type-of 
 
 returns : tie.Need-returns
 unfolding typedCheck
-returns c = stopped (Refused R.TableFull) _ (ap not (sym (long (c .before)) ∙ c .if1 .taken))
+returns c = stopped (refusedBy 28) _ (ap not (sym (long (c .before)) ∙ c .if1 .taken))
 
 returns-2 : tie.Need-returns-2
 unfolding typedCheck
 returns-2 c =
     let k = c .before in
     let a = k .before in
-    passed (Refused R.TableFull) (ap not (sym (long (a .before)) ∙ a .if1 .left)) (stopped (Refused R.«Type») _ (failed (kind k) (c .if2 .taken)))
+    passed (refusedBy 28) (ap not (sym (long (a .before)) ∙ a .if1 .left)) (stopped (refusedBy 6) _ (failed (kind k) (c .if2 .taken)))
 
 returns-3 : tie.Need-returns-3
 unfolding typedCheck
 returns-3 c =
     let k = c .before in
     let a = k .before in
-    passed (Refused R.TableFull) (ap not (sym (long (a .before)) ∙ a .if1 .left)) (passed (Refused R.«Type») (held (kind k) (c .if2 .left)) refl)
+    passed (refusedBy 28) (ap not (sym (long (a .before)) ∙ a .if1 .left)) (passed (refusedBy 6) (held (kind k) (c .if2 .left)) refl)
 
 pub expression-check-spec : {M : Type 1} → statement M
 expression-check-spec =

@@ -5,17 +5,15 @@ use lib.Dec.{eqb, ltb}
 use borrow.Author.Tests.{eq-eqb, ne-eqb, ltb-true, ltb-false}
 use Rattle.laws.proofs.Tests.{denied, granted}
 use Rattle.grammar.specs.Draws.{drawsOf}
-use Rattle.grammar.specs.Typing.{typeOf}
+use Rattle.grammar.specs.Typing.{typeOf, kindedAs, tooDeep, tooLong}
 use Rattle.graph_tables.specs.Words.{kindsOf}
 use mathlib.Core.Path.{_≡_, refl, sym, ap, _∙_}
 use borrow.Author.Needs.{needs}
 use Rattle.laws.proofs.Ladder.{passed, stopped}
 use Rattle.laws.proofs.Tests.{held, failed}
-use Rattle.graph_tables.specs.declared.refusals.Refusal.the-variants as R
-use Rattle.graph_tables.specs.declared.answers.Done.the-variants.{Refused}
 use Prim.Native.Nat.{_-_}
 use native.Mathlib.Omega.{arith}
-use Rattle.graph_checks.specs.Checks.{tooLong, tooDeep, kindedAs, guardCheck}
+use Rattle.graph_checks.specs.Checks.{refusedBy, guardCheck}
 use Rattle.graph_checks.proofs.checks.guard_check.Statement.{statement}
 use Rattle.graph_checks.proofs.checks.guard_check.Tie as tie
 
@@ -33,7 +31,7 @@ returns : tie.Need-returns
 unfolding guardCheck
 returns c =
     let l = c .before in
-    stopped (Refused R.TableFull) _ (denied (l .too-long .ensures ∙ ap tooLong (typed-is (l .before))) (c .if1 .taken))
+    stopped (refusedBy 28) _ (denied (l .too-long .ensures ∙ ap tooLong (typed-is (l .before))) (c .if1 .taken))
 
 returns-2 : tie.Need-returns-2
 unfolding guardCheck
@@ -41,8 +39,8 @@ returns-2 c =
     let k = c .before in
     let b = k .before in
     let l = b .before in
-    passed (Refused R.TableFull) (granted (l .too-long .ensures ∙ ap tooLong (typed-is (l .before))) (b .if1 .left))
-    (stopped (Refused R.«Type») _ (failed (k .kinded-as .ensures ∙ ap (kindedAs 0) (typed-is (l .before))) (c .if2 .taken)))
+    passed (refusedBy 28) (granted (l .too-long .ensures ∙ ap tooLong (typed-is (l .before))) (b .if1 .left))
+    (stopped (refusedBy 6) _ (failed (k .kinded-as .ensures ∙ ap (kindedAs 0) (typed-is (l .before))) (c .if2 .taken)))
 
 returns-3 : tie.Need-returns-3
 unfolding guardCheck
@@ -52,9 +50,9 @@ returns-3 c =
     let k = d .before in
     let b = k .before in
     let l = b .before in
-    passed (Refused R.TableFull) (granted (l .too-long .ensures ∙ ap tooLong (typed-is (l .before))) (b .if1 .left))
-    (passed (Refused R.«Type») (held (k .kinded-as .ensures ∙ ap (kindedAs 0) (typed-is (l .before))) (d .if2 .left))
-    (stopped (Refused R.«Type») _ (draws (drawsOf (l .before .before .before .before .before .args .items .now)) (h .has-draws .ensures) (c .if3 .taken))))
+    passed (refusedBy 28) (granted (l .too-long .ensures ∙ ap tooLong (typed-is (l .before))) (b .if1 .left))
+    (passed (refusedBy 6) (held (k .kinded-as .ensures ∙ ap (kindedAs 0) (typed-is (l .before))) (d .if2 .left))
+    (stopped (refusedBy 6) _ (draws (drawsOf (l .before .before .before .before .before .args .items .now)) (h .has-draws .ensures) (c .if3 .taken))))
 
 returns-4 : tie.Need-returns-4
 unfolding guardCheck
@@ -66,10 +64,10 @@ returns-4 c =
     let k = d .before in
     let b = k .before in
     let l = b .before in
-    passed (Refused R.TableFull) (granted (l .too-long .ensures ∙ ap tooLong (typed-is (l .before))) (b .if1 .left))
-    (passed (Refused R.«Type») (held (k .kinded-as .ensures ∙ ap (kindedAs 0) (typed-is (l .before))) (d .if2 .left))
-    (passed (Refused R.«Type») (no-draws (drawsOf (l .before .before .before .before .before .args .items .now)) (h .has-draws .ensures) (e .if3 .left))
-    (stopped (Refused R.TableFull) _ (denied (q .too-deep .ensures ∙ ap tooDeep (typed-is (l .before))) (c .if4 .taken)))))
+    passed (refusedBy 28) (granted (l .too-long .ensures ∙ ap tooLong (typed-is (l .before))) (b .if1 .left))
+    (passed (refusedBy 6) (held (k .kinded-as .ensures ∙ ap (kindedAs 0) (typed-is (l .before))) (d .if2 .left))
+    (passed (refusedBy 6) (no-draws (drawsOf (l .before .before .before .before .before .args .items .now)) (h .has-draws .ensures) (e .if3 .left))
+    (stopped (refusedBy 28) _ (denied (q .too-deep .ensures ∙ ap tooDeep (typed-is (l .before))) (c .if4 .taken)))))
 
 returns-5 : tie.Need-returns-5
 unfolding guardCheck
@@ -81,10 +79,10 @@ returns-5 c =
     let k = d .before in
     let b = k .before in
     let l = b .before in
-    passed (Refused R.TableFull) (granted (l .too-long .ensures ∙ ap tooLong (typed-is (l .before))) (b .if1 .left))
-    (passed (Refused R.«Type») (held (k .kinded-as .ensures ∙ ap (kindedAs 0) (typed-is (l .before))) (d .if2 .left))
-    (passed (Refused R.«Type») (no-draws (drawsOf (l .before .before .before .before .before .args .items .now)) (h .has-draws .ensures) (e .if3 .left))
-    (passed (Refused R.TableFull) (granted (q .too-deep .ensures ∙ ap tooDeep (typed-is (l .before))) (c .if4 .left)) refl)))
+    passed (refusedBy 28) (granted (l .too-long .ensures ∙ ap tooLong (typed-is (l .before))) (b .if1 .left))
+    (passed (refusedBy 6) (held (k .kinded-as .ensures ∙ ap (kindedAs 0) (typed-is (l .before))) (d .if2 .left))
+    (passed (refusedBy 6) (no-draws (drawsOf (l .before .before .before .before .before .args .items .now)) (h .has-draws .ensures) (e .if3 .left))
+    (passed (refusedBy 28) (granted (q .too-deep .ensures ∙ ap tooDeep (typed-is (l .before))) (c .if4 .left)) refl)))
 
 pub guard-check-spec : {M : Type 1} → statement M
 guard-check-spec =

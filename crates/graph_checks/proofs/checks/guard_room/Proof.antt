@@ -3,10 +3,8 @@ use borrow.Author.Needs.{needs}
 use borrow.Author.Tests.{lt-ltb, le-ltb}
 use Rattle.laws.proofs.Ladder.{passed, stopped}
 use Rattle.graph_checks.proofs.CheckLaws.{then-on, then-stops}
-use Rattle.graph_tables.specs.declared.refusals.Refusal.the-variants as R
-use Rattle.graph_tables.specs.declared.answers.Done.the-variants.{Refused}
 use Prim.Native.Nat.{_-_}
-use Rattle.graph_checks.specs.Checks.{guardRoom}
+use Rattle.graph_checks.specs.Checks.{refusedBy, guardRoom}
 use Rattle.graph_checks.proofs.checks.guard_room.Statement.{statement}
 use Rattle.graph_checks.proofs.checks.guard_room.Tie as tie
 
@@ -22,7 +20,7 @@ returns-2 c =
     let n = c .before in
     let e = n .before in
     then-on (sym (e .before .before .if-guarded .ensures) ∙ e .enum-told .given .1)
-    (stopped (Refused R.TableFull) _ (le-ltb _ _ (rw (n .transition-count .ensures) at (c .if1 .taken))))
+    (stopped (refusedBy 28) _ (le-ltb _ _ (rw (n .transition-count .ensures) at (c .if1 .taken))))
 
 returns-3 : tie.Need-returns-3
 unfolding guardRoom
@@ -30,7 +28,7 @@ returns-3 c =
     let n = c .before in
     let e = n .before in
     then-on (sym (e .before .before .if-guarded .ensures) ∙ e .enum-told .given .1)
-    (passed (Refused R.TableFull) (lt-ltb _ _ (rw (n .transition-count .ensures) at (c .if1 .left))) refl)
+    (passed (refusedBy 28) (lt-ltb _ _ (rw (n .transition-count .ensures) at (c .if1 .left))) refl)
 
 pub guard-room-spec : {M : Type 1} → statement M
 guard-room-spec =

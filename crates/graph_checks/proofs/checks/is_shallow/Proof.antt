@@ -1,7 +1,7 @@
-use Rattle.graph_checks.specs.Checks.{tooDeep}
 use mathlib.Core.Bool.{not}
 use mathlib.Core.Path.{ap, _∙_}
 use borrow.Author.Needs.{needs}
+use Rattle.grammar.specs.Typing.{tooDeep}
 use Rattle.graph_checks.proofs.checks.is_shallow.Statement.{statement}
 use Rattle.graph_checks.proofs.checks.is_shallow.Tie as tie
 

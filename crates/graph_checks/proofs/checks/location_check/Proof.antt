@@ -5,17 +5,15 @@ use Rattle.laws.proofs.Ladder.{passed, stopped}
 use Rattle.laws.proofs.Tests.{held, failed}
 use Rattle.graph_checks.proofs.CheckLaws.{then-on, then-stops}
 use mathlib.Core.Bool.{true}
-use Rattle.graph_tables.specs.declared.refusals.Refusal.the-variants as R
-use Rattle.graph_tables.specs.declared.answers.Done.the-variants.{Refused}
 use Rattle.graph_tables.proofs.SoundLaws.{sound}
 use Prim.Native.Nat.{_-_}
-use Rattle.graph_checks.specs.Checks.{locationCheck}
+use Rattle.graph_checks.specs.Checks.{refusedBy, locationCheck}
 use Rattle.graph_checks.proofs.checks.location_check.Statement.{statement}
 use Rattle.graph_checks.proofs.checks.location_check.Tie as tie
 
 returns : tie.Need-returns
 unfolding locationCheck
-returns c = stopped (Refused R.BadState) _ (failed (c .before .well-formed .ensures) (c .if1 .taken))
+returns c = stopped (refusedBy 32) _ (failed (c .before .well-formed .ensures) (c .if1 .taken))
 
 limits-check-requires : tie.Need-limits-check-requires
 limits-check-requires c κs = sound _ true (held (c .before .well-formed .ensures) (c .if1 .left))
@@ -26,7 +24,7 @@ returns-2 c =
     let l = c .before in
     let k = l .before .before in
     let w = k .before in
-    passed (Refused R.BadState) (held (w .before .well-formed .ensures) (w .if1 .left)) (then-stops _ (sym (k .limits-check .ensures) ∙ l .limits .given .1))
+    passed (refusedBy 32) (held (w .before .well-formed .ensures) (w .if1 .left)) (then-stops _ (sym (k .limits-check .ensures) ∙ l .limits .given .1))
 
 location-count-requires : tie.Need-location-count-requires
 location-count-requires c κs =
@@ -40,9 +38,9 @@ returns-3 c =
     let e = n .before in
     let k = e .before .before in
     let w = k .before in
-    passed (Refused R.BadState) (held (w .before .well-formed .ensures) (w .if1 .left))
+    passed (refusedBy 32) (held (w .before .well-formed .ensures) (w .if1 .left))
     (then-on (sym (k .limits-check .ensures) ∙ e .enum-told .given .1)
-    (stopped (Refused R.TableFull) _ (le-ltb _ _ (rw (n .location-count .ensures) at (c .if2 .taken)))))
+    (stopped (refusedBy 28) _ (le-ltb _ _ (rw (n .location-count .ensures) at (c .if2 .taken)))))
 
 returns-4 : tie.Need-returns-4
 unfolding locationCheck
@@ -51,9 +49,9 @@ returns-4 c =
     let e = n .before in
     let k = e .before .before in
     let w = k .before in
-    passed (Refused R.BadState) (held (w .before .well-formed .ensures) (w .if1 .left))
+    passed (refusedBy 32) (held (w .before .well-formed .ensures) (w .if1 .left))
     (then-on (sym (k .limits-check .ensures) ∙ e .enum-told .given .1)
-    (passed (Refused R.TableFull) (lt-ltb _ _ (rw (n .location-count .ensures) at (c .if2 .left))) refl))
+    (passed (refusedBy 28) (lt-ltb _ _ (rw (n .location-count .ensures) at (c .if2 .left))) refl))
 
 pub location-check-spec : {M : Type 1} → statement M
 location-check-spec =

@@ -10,9 +10,10 @@ use native.Mathlib.Omega.{arith}
 use borrow.Author.Needs.{needs}
 use Rattle.graph_checks.proofs.checks.message_draws.Statement.{statement}
 use Rattle.graph_checks.proofs.checks.message_draws.Tie as tie
+use Rattle.graph_tables.specs.Sizes.{itemRoom}
 
 abbrev Inv-loop : tie.InvT-loop
-Inv-loop w x y z count sum₀ i₀ sum i = (i ≤ count) × (sum ≤ 64 * i) × (sum ≡ sumBelow i (messageDraws (chosen w x y z)))
+Inv-loop w x y z count sum₀ i₀ sum i = (i ≤ count) × (sum ≤ itemRoom * i) × (sum ≡ sumBelow i (messageDraws (chosen w x y z)))
 
 abbrev μ-loop : tie.MeasureT-loop
 μ-loop w x y z count sum₀ i₀ sum i = count - i
@@ -20,13 +21,13 @@ abbrev μ-loop : tie.MeasureT-loop
 loop-holds : tie.Need-loop-holds Inv-loop μ-loop
 loop-holds c = (search needs, search needs, sym (sum-none _))
 
--- an expression has at most 64 draws
-few : (d : tie.After-count-draws Inv-loop μ-loop) → d .count-draws .result ≤ 64
+-- an expression has at most a draw for each item
+few : (d : tie.After-count-draws Inv-loop μ-loop) → d .count-draws .result ≤ itemRoom
 few d =
     let h = d .before in
     let l = h .before .before in
     let s = l .before .before .before .before .before in
-    let b : length (h .choose .result .now) ≤ 64 = rw (h .choose .ensures) (s .pre .1 (l .loop .i) (omega arith)) in
+    let b : length (h .choose .result .now) ≤ itemRoom = rw (h .choose .ensures) (s .pre .1 (l .loop .i) (omega arith)) in
     omega (arith, d .count-draws .ensures, draws-few (h .choose .result .now))
 
 add-sum : tie.Need-add-sum Inv-loop μ-loop

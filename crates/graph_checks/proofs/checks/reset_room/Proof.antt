@@ -4,16 +4,14 @@ use borrow.Author.Needs.{needs}
 use borrow.Author.Tests.{lt-ltb, le-ltb}
 use Rattle.laws.proofs.Ladder.{passed, stopped}
 use Rattle.graph_checks.proofs.CheckLaws.{then-on, then-stops}
-use Rattle.graph_tables.specs.declared.refusals.Refusal.the-variants as R
-use Rattle.graph_tables.specs.declared.answers.Done.the-variants.{Refused}
 use Prim.Native.Nat.{_-_}
 use native.Mathlib.Omega.{arith}
-use Rattle.graph_checks.specs.Checks.{resetRoom}
+use Rattle.graph_checks.specs.Checks.{refusedBy, roomForReset}
 use Rattle.graph_checks.proofs.checks.reset_room.Statement.{statement}
 use Rattle.graph_checks.proofs.checks.reset_room.Tie as tie
 
 returns : tie.Need-returns
-unfolding resetRoom
+unfolding roomForReset
 returns c =
     let l = c .before in
     then-stops _ (sym (l .before .before .plain-check .ensures) ∙ l .plain .given .1)
@@ -26,20 +24,20 @@ reset-count-requires c κs =
     (s .words, omega (arith, a, s .counts .actions))
 
 returns-2 : tie.Need-returns-2
-unfolding resetRoom
+unfolding roomForReset
 returns-2 c =
     let n = c .before in
     let e = n .before in
     then-on (sym (e .before .before .plain-check .ensures) ∙ e .enum-told .given .1)
-    (stopped (Refused R.TableFull) _ (le-ltb _ _ (rw (n .reset-count .ensures) at (c .if1 .taken))))
+    (stopped (refusedBy 28) _ (le-ltb _ _ (rw (n .reset-count .ensures) at (c .if1 .taken))))
 
 returns-3 : tie.Need-returns-3
-unfolding resetRoom
+unfolding roomForReset
 returns-3 c =
     let n = c .before in
     let e = n .before in
     then-on (sym (e .before .before .plain-check .ensures) ∙ e .enum-told .given .1)
-    (passed (Refused R.TableFull) (lt-ltb _ _ (rw (n .reset-count .ensures) at (c .if1 .left))) refl)
+    (passed (refusedBy 28) (lt-ltb _ _ (rw (n .reset-count .ensures) at (c .if1 .left))) refl)
 
 pub reset-room-spec : {M : Type 1} → statement M
 reset-room-spec =

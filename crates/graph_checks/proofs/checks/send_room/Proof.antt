@@ -2,6 +2,7 @@ use borrow.Author.Tests.{lt-ltb, le-ltb, le-leb, lt-leb}
 use Rattle.laws.specs.Below.{allBelow, sumBelow}
 use Rattle.laws.proofs.Tests.{held, failed}
 use Rattle.laws.proofs.Ladder.{passed, stopped}
+use Rattle.graph_tables.specs.Sizes.{drawRoom}
 use Rattle.graph_tables.specs.declared.refusals.Refusal.the-variants.{TableFull}
 use Rattle.graph_tables.specs.Words.{kindsOf}
 use Rattle.graph_edits.specs.Edits.{chosen}
@@ -18,7 +19,7 @@ use Rattle.graph_checks.proofs.checks.send_room.Tie as tie
 flat : (a : tie.Else1) → let s = a .before .before .before .before .before .before .before .args in allBelow (s .count) (shallow (kindsOf (s .t .now)) (chosen (s .w .now) (s .x .now) (s .y .now) (s .z .now))) ≡ true
 flat a = held (a .before .all-shallow .ensures) (a .if1 .left)
 
-few : (b : tie.Else2) → let s = b .before .before .before .before .before .before .before .before .before .args in sumBelow (s .count) (messageDraws (chosen (s .w .now) (s .x .now) (s .y .now) (s .z .now))) ≤ 64
+few : (b : tie.Else2) → let s = b .before .before .before .before .before .before .before .before .before .args in sumBelow (s .count) (messageDraws (chosen (s .w .now) (s .x .now) (s .y .now) (s .z .now))) ≤ drawRoom
 few b = rw (b .before .message-draws .ensures) at (b .if2 .left)
 
 returns : tie.Need-returns

@@ -3,24 +3,22 @@ use borrow.Author.Needs.{needs}
 use borrow.Author.Tests.{lt-ltb, le-ltb}
 use Rattle.laws.proofs.Ladder.{passed, stopped}
 use Rattle.laws.proofs.Tests.{held, failed}
-use Rattle.graph_tables.specs.declared.refusals.Refusal.the-variants as R
-use Rattle.graph_tables.specs.declared.answers.Done.the-variants.{Refused}
 use Prim.Native.Nat.{_-_}
-use Rattle.graph_checks.specs.Checks.{startCheck}
+use Rattle.graph_checks.specs.Checks.{refusedBy, startCheck}
 use Rattle.graph_checks.proofs.checks.start_check.Statement.{statement}
 use Rattle.graph_checks.proofs.checks.start_check.Tie as tie
 
 returns : tie.Need-returns
 unfolding startCheck
-returns c = stopped (Refused R.Invariant) _ (failed (c .before .all-start-inside .ensures) (c .if1 .taken))
+returns c = stopped (refusedBy 9) _ (failed (c .before .all-start-inside .ensures) (c .if1 .taken))
 
 returns-2 : tie.Need-returns-2
 unfolding startCheck
 returns-2 c =
     let n = c .before in
     let b = n .before in
-    passed (Refused R.Invariant) (held (b .before .all-start-inside .ensures) (b .if1 .left))
-    (stopped (Refused R.TableFull) _ (le-ltb _ _ (rw (n .location-count .ensures) at (c .if2 .taken))))
+    passed (refusedBy 9) (held (b .before .all-start-inside .ensures) (b .if1 .left))
+    (stopped (refusedBy 28) _ (le-ltb _ _ (rw (n .location-count .ensures) at (c .if2 .taken))))
 
 returns-3 : tie.Need-returns-3
 unfolding startCheck
@@ -29,9 +27,9 @@ returns-3 c =
     let d = m .before in
     let n = d .before in
     let b = n .before in
-    passed (Refused R.Invariant) (held (b .before .all-start-inside .ensures) (b .if1 .left))
-    (passed (Refused R.TableFull) (lt-ltb _ _ (rw (n .location-count .ensures) at (d .if2 .left)))
-    (stopped (Refused R.TableFull) _ (le-ltb _ _ (rw (m .process-count .ensures) at (c .if3 .taken)))))
+    passed (refusedBy 9) (held (b .before .all-start-inside .ensures) (b .if1 .left))
+    (passed (refusedBy 28) (lt-ltb _ _ (rw (n .location-count .ensures) at (d .if2 .left)))
+    (stopped (refusedBy 28) _ (le-ltb _ _ (rw (m .process-count .ensures) at (c .if3 .taken)))))
 
 returns-4 : tie.Need-returns-4
 unfolding startCheck
@@ -40,9 +38,9 @@ returns-4 c =
     let d = m .before in
     let n = d .before in
     let b = n .before in
-    passed (Refused R.Invariant) (held (b .before .all-start-inside .ensures) (b .if1 .left))
-    (passed (Refused R.TableFull) (lt-ltb _ _ (rw (n .location-count .ensures) at (d .if2 .left)))
-    (passed (Refused R.TableFull) (lt-ltb _ _ (rw (m .process-count .ensures) at (c .if3 .left))) refl))
+    passed (refusedBy 9) (held (b .before .all-start-inside .ensures) (b .if1 .left))
+    (passed (refusedBy 28) (lt-ltb _ _ (rw (n .location-count .ensures) at (d .if2 .left)))
+    (passed (refusedBy 28) (lt-ltb _ _ (rw (m .process-count .ensures) at (c .if3 .left))) refl))
 
 pub start-check-spec : {M : Type 1} → statement M
 start-check-spec =

@@ -1,5 +1,6 @@
 use borrow.Author.Tests.{le-leb, lt-leb}
 use Rattle.laws.proofs.BelowLaws.{and-yes, and-no}
+use Rattle.graph_tables.specs.Sizes.{transitionRoom}
 use Rattle.graph_tables.specs.Formed.{countsFormed}
 use lib.Dec.{leb}
 use Prim.Native.Nat.{ℕ, _-_}
@@ -86,7 +87,7 @@ returns-6 c =
     (and-yes (le-leb _ _ (rw (n2 .location-count .ensures) at (e2 .if3 .left)))
     (and-yes (le-leb _ _ (rw (n3 .action-count .ensures) at (e3 .if4 .left)))
     (and-yes (le-leb _ _ (rw (n4 .process-count .ensures) at (e4 .if5 .left)))
-    (ap (λ (n : ℕ). leb n 128) (c .transition-count .ensures))))))
+    (ap (λ (n : ℕ). leb n transitionRoom) (c .transition-count .ensures))))))
 
 pub counts-formed-spec : {M : Type 1} → statement M
 counts-formed-spec =

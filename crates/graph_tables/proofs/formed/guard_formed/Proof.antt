@@ -1,7 +1,12 @@
 use borrow.Author.Tests.{eq-eqb, ne-eqb, le-leb, lt-leb}
 use Rattle.laws.proofs.BelowLaws.{and-yes, and-no}
 use Rattle.laws.proofs.Tests.{held, failed}
+use mathlib.Core.Path.{_≡_}
+use mathlib.Core.Bool.{true}
+use Rattle.grammar.specs.Typing.{typedAs, typeOf}
+use Rattle.graph_tables.specs.Words.{kindsOf, guardItems}
 use Rattle.graph_tables.specs.Formed.{guardFormed}
+use Rattle.graph_tables.proofs.FormedLaws.{all-told}
 use Prim.Native.Nat.{_-_}
 use borrow.Author.Needs.{needs}
 use Rattle.graph_tables.proofs.formed.guard_formed.Statement.{statement}
@@ -18,6 +23,15 @@ returns-2 c =
     let n = a .before in
     rw (ne-eqb _ _ (rw (n .guard-length .ensures) at (a .if1 .left))) (and-no _ (lt-leb _ _ (rw (n .guard-length .ensures) at (c .if2 .taken))))
 
+-- what the test of the kind says where it is passed
+typed : (d : tie.Else3) → let t = d .before .before .before .before .before .before .before .before .before .args .t .now in
+    typedAs 0 (typeOf (kindsOf t) (guardItems t (d .before .before .before .before .before .before .before .before .before .args .k))) ≡ true
+typed d =
+    let w = d .before in
+    let y = w .before in
+    let ks = y .before in
+    rw (y .judge .ensures, ks .kinds-of .ensures, ks .before .guard-items .ensures) at (held (w .typed-as .ensures) (d .if3 .left))
+
 returns-3 : tie.Need-returns-3
 unfolding guardFormed
 returns-3 c =
@@ -30,7 +44,7 @@ returns-3 c =
     let n = a .before in
     rw (ne-eqb _ _ (rw (n .guard-length .ensures) at (a .if1 .left)))
     (and-yes (le-leb _ _ (rw (n .guard-length .ensures) at (b .if2 .left)))
-    (and-no _ (rw (y .type-of .ensures, ks .kinds-of .ensures, i .guard-items .ensures) at (failed (w .typed-as .ensures) (c .if3 .taken)))))
+    (and-no _ (rw (y .judge .ensures, ks .kinds-of .ensures, i .guard-items .ensures) at (failed (w .typed-as .ensures) (c .if3 .taken)))))
 
 returns-4 : tie.Need-returns-4
 unfolding guardFormed
@@ -45,8 +59,7 @@ returns-4 c =
     let n = a .before in
     rw (ne-eqb _ _ (rw (n .guard-length .ensures) at (a .if1 .left)))
     (and-yes (le-leb _ _ (rw (n .guard-length .ensures) at (b .if2 .left)))
-    (and-yes (rw (y .type-of .ensures, ks .kinds-of .ensures, i .guard-items .ensures) at (held (w .typed-as .ensures) (d .if3 .left)))
-    (rw (c .count-draws .ensures, i .guard-items .ensures))))
+    (and-yes (typed d) (rw (y .judge .ensures, ks .kinds-of .ensures, i .guard-items .ensures, all-told 0 _ _ (typed d)))))
 
 pub guard-formed-spec : {M : Type 1} → statement M
 guard-formed-spec =
@@ -60,5 +73,4 @@ guard-formed-spec =
     (λ c κs. search needs)
     (λ c κs. search needs)
     returns-3
-    (λ c κs. search needs)
     returns-4)

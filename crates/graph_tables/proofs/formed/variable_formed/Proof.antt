@@ -1,6 +1,7 @@
 use lib.Dec.{ltb}
 use borrow.Author.Tests.{eq-eqb, ne-eqb}
 use Rattle.laws.proofs.BelowLaws.{and-yes, and-no}
+use Rattle.graph_tables.specs.Sizes.{word32}
 use Rattle.graph_tables.specs.Formed.{variableFormed}
 use Prim.Native.Nat.{ℕ, _-_}
 use mathlib.Core.Path.{ap}
@@ -18,7 +19,7 @@ returns-2 c = let v = c .before .before in rw (ne-eqb _ _ (rw (v .before .kind-a
 
 returns-3 : tie.Need-returns-3
 unfolding variableFormed
-returns-3 c = let v = c .before .before in rw (ne-eqb _ _ (rw (v .before .kind-at .ensures) at (c .before .if1 .left))) (and-yes (eq-eqb _ _ (rw (v .before .kind-at .ensures) at (c .if2 .left))) (ap (λ (n : ℕ). ltb n 4294967296) (v .value-at .ensures)))
+returns-3 c = let v = c .before .before in rw (ne-eqb _ _ (rw (v .before .kind-at .ensures) at (c .before .if1 .left))) (and-yes (eq-eqb _ _ (rw (v .before .kind-at .ensures) at (c .if2 .left))) (ap (λ (n : ℕ). ltb n word32) (v .value-at .ensures)))
 
 pub variable-formed-spec : {M : Type 1} → statement M
 variable-formed-spec =

@@ -1,6 +1,5 @@
-use lib.ListN.{take, drop}
-use Prim.Native.Nat.{ℕ, _+_, _-_, _*_}
-use mathlib.Core.Path.{_≡_, ap, _∙_}
+use Prim.Native.Nat.{_+_, _-_}
+use mathlib.Core.Path.{_≡_}
 use native.Mathlib.Omega.{arith}
 use borrow.Author.Needs.{needs}
 use Rattle.graph_tables.proofs.inner.guard_items.Statement.{statement}
@@ -8,18 +7,17 @@ use Rattle.graph_tables.proofs.inner.guard_items.Tie as tie
 
 returns : tie.Need-returns
 returns c =
-    let s = c .before .before .before in
-    let from = 5930 + 64 * s .args .k in
-    let n = c .before .guard-length .result in
+    let l = c .before in
+    let from = l .before .guard-slot .result in
+    let n = l .guard-length .result in
     let e : from + n - from ≡ n = omega arith in
-    ap (λ (k : ℕ). take k (drop from (s .args .t .now))) (e ∙ c .before .guard-length .ensures)
+    rw (e, l .guard-length .ensures, l .before .guard-slot .ensures)
 
 pub guard-items-spec : {M : Type 1} → statement M
 guard-items-spec =
     tie.close
     (tie.spec
-    (λ c. search needs)
-    (λ c. search needs)
+    (λ c κs. search needs)
     (λ c κs. search needs)
     (λ c. search needs)
     (λ c. search needs)

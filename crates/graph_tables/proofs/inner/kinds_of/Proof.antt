@@ -3,6 +3,7 @@ use Prim.Native.Nat.{ℕ, _+_, _-_}
 use mathlib.Core.Path.{_≡_, ap, _∙_}
 use native.Mathlib.Omega.{arith}
 use borrow.Author.Needs.{needs}
+use Rattle.graph_tables.specs.Layout.{kindsStart, kindCell}
 use Rattle.graph_tables.proofs.inner.kinds_of.Statement.{statement}
 use Rattle.graph_tables.proofs.inner.kinds_of.Tie as tie
 
@@ -10,8 +11,8 @@ returns : tie.Need-returns
 returns c =
     let s = c .before .before .before in
     let n = c .before .variable-count .result in
-    let e : 6 + n - 6 ≡ n = omega arith in
-    ap (λ (k : ℕ). take k (drop 6 (s .args .t .now))) (e ∙ c .before .variable-count .ensures)
+    let e : kindCell n - kindsStart ≡ n = omega arith in
+    ap (λ (k : ℕ). take k (drop kindsStart (s .args .t .now))) (e ∙ c .before .variable-count .ensures)
 
 pub kinds-of-spec : {M : Type 1} → statement M
 kinds-of-spec =

@@ -7,12 +7,13 @@ use Prim.Native.Nat.{ℕ}
 use mathlib.Core.Path.{ap}
 use mathlib.Core.Bool.{Bool}
 use mathlib.Core.List.{[]}
-use Rattle.graph_edits.specs.Edits.{withTransition, keyWith}
+use Rattle.graph_edits.specs.Edits.{withTransition}
 use Rattle.program_graph.specs.Building.{guardOf, addTransitionOf}
 use Rattle.program_graph.proofs.BuildingLaws.{parts, words-of, counted-of, done-refused, done-accepted}
 use Rattle.graph_checks.proofs.ReadyParts.{transition-ready}
 use Rattle.program_graph.proofs.builder.add_timed_transition.Statement.{statement}
 use Rattle.program_graph.proofs.builder.add_timed_transition.Tie as tie
+use Rattle.graph_tables.specs.Words.{keyWith}
 
 returns : tie.Need-returns
 unfolding addTransitionOf
@@ -21,8 +22,8 @@ returns c =
     let k = l .before .before in
     parts (done-refused (k .before .before .before .before .args .t .now) _ (sym (k .transition-check .ensures) ∙ l .check .given .1))
 
-key-requires : tie.Need-key-requires
-key-requires c κs =
+key-with-requires : tie.Need-key-with-requires
+key-with-requires c κs =
     let k = c .before .before in
     let r = transition-ready _ _ _ _ _ _ _ (sym (k .transition-check .ensures) ∙ c .enum-told .given .1) in
     let m = counted-of _ true (r .formed) .locations in
@@ -48,7 +49,7 @@ returns-2 c =
     parts
     (done-accepted (a .t .now) (sym (k .transition-check .ensures) ∙ e .enum-told .given .1)
     (p .put-transition .ensures
-    ∙ ap (λ (i : ℕ). withTransition (a .t .now) i (a .guard .now) (a .limits)) (q .key .ensures)
+    ∙ ap (λ (i : ℕ). withTransition (a .t .now) i (a .guard .now) (a .limits)) (q .key-with .ensures)
     ∙ ap (λ (b : Bool). withTransition (a .t .now) (keyWith (a .pre .0) (a .action .0) (a .post .0)) (guardOf b (a .guard .now)) (a .limits)) (sym (y .if1 .taken))))
 
 put-transition-requires-2 : tie.Need-put-transition-requires-2
@@ -70,7 +71,7 @@ returns-3 c =
     parts
     (done-accepted (a .t .now) (sym (k .transition-check .ensures) ∙ e .enum-told .given .1)
     (p .put-transition2 .ensures
-    ∙ ap (λ (i : ℕ). withTransition (a .t .now) i [] (a .limits)) (q .key .ensures)
+    ∙ ap (λ (i : ℕ). withTransition (a .t .now) i [] (a .limits)) (q .key-with .ensures)
     ∙ ap (λ (b : Bool). withTransition (a .t .now) (keyWith (a .pre .0) (a .action .0) (a .post .0)) (guardOf b (a .guard .now)) (a .limits)) (sym (y .if1 .left))))
 
 pub add-timed-transition-spec : {M : Type 1} → statement M
@@ -84,7 +85,7 @@ add-timed-transition-spec =
     (λ c. search needs)
     (λ c. search needs)
     (λ c. search needs)
-    key-requires
+    key-with-requires
     put-transition-requires
     (λ c. search needs)
     returns-2

@@ -1,54 +1,43 @@
+use Prim.Native.Nat.{_-_, _<_}
+use mathlib.Core.Path.{_≡_, sym, _∙_}
 use mathlib.Core.Bool.{true}
-use borrow.Author.Tests.{lt-ltb, le-ltb}
-use Rattle.laws.proofs.Tests.{held, failed}
-use Rattle.laws.proofs.Ladder.{passed, stopped}
-use Rattle.program_graph.proofs.BuildingLaws.{parts, words-of}
-use Rattle.graph_tables.specs.declared.refusals.Refusal.the-variants.{BadState, TableFull}
-use Rattle.program_graph.specs.Building.{refusedWith, placedAt, newClockOf}
-use Prim.Native.Nat.{ℕ, _+_, _-_}
-use mathlib.Core.Path.{_≡_, ap}
 use native.Mathlib.Omega.{arith}
-use lib.ListN.{length, set}
 use borrow.Author.Needs.{needs}
+use Rattle.graph_tables.specs.Sizes.{word32}
+use Rattle.graph_checks.proofs.ReadyParts.{clock-ready}
+use Rattle.program_graph.specs.Building.{newClockOf}
+use Rattle.program_graph.proofs.BuildingLaws.{parts, words-of, placed-refused, placed-accepted}
 use Rattle.program_graph.proofs.builder.new_clock.Statement.{statement}
 use Rattle.program_graph.proofs.builder.new_clock.Tie as tie
-
-long : (c : tie.Else2) → length (c .before .before .before .before .before .before .before .args .t .now) ≡ 46890
-long c =
-    let w = c .before .before .before in
-    words-of _ true (held (w .before .well-formed .ensures) (w .if1 .left))
 
 returns : tie.Need-returns
 unfolding newClockOf
 returns c =
-    let s = c .before .before .before .before in
-    parts (stopped (refusedWith BadState (s .args .t .now)) _ (failed (c .before .well-formed .ensures) (c .if1 .taken)))
+    let l = c .before in
+    let k = l .before .before in
+    parts (placed-refused (k .before .before .before .args .t .now) _ _ (sym (k .clock-check .ensures) ∙ l .check .given .1))
 
 clock-count-requires : tie.Need-clock-count-requires
-clock-count-requires c κs = let w = c .before in words-of _ true (held (w .before .well-formed .ensures) (w .if1 .left))
+clock-count-requires c κs =
+    let e = c .before in
+    let k = e .before .before in
+    words-of _ true (clock-ready _ (sym (k .clock-check .ensures) ∙ e .enum-told .given .1) .0)
+
+put-clock-requires : tie.Need-put-clock-requires
+put-clock-requires c κs =
+    let e = c .before .before .before in
+    let k = e .before .before in
+    let r = clock-ready _ (sym (k .clock-check .ensures) ∙ e .enum-told .given .1) in
+    (words-of _ true (r .0), r .1)
 
 returns-2 : tie.Need-returns-2
 unfolding newClockOf
 returns-2 c =
-    let n = c .before in
-    let w = n .before .before in
-    let s = w .before .before .before .before in
-    parts (passed (refusedWith BadState (s .args .t .now)) (held (w .before .well-formed .ensures) (w .if1 .left)) (stopped (refusedWith TableFull (s .args .t .now)) _ (le-ltb _ _ (rw (n .clock-count .ensures) at (c .if2 .taken)))))
-
-slice-write-t : tie.Need-slice-write-t
-slice-write-t c = omega (arith, long c)
-
-returns-3 : tie.Need-returns-3
-unfolding newClockOf
-returns-3 c =
-    let e = c in
-    let n = e .before in
-    let w = n .before .before in
-    let s = w .before .before .before .before in
-    parts
-    (passed (refusedWith BadState (s .args .t .now)) (held (w .before .well-formed .ensures) (w .if1 .left))
-    (passed (refusedWith TableFull (s .args .t .now)) (lt-ltb _ _ (rw (n .clock-count .ensures) at (e .if2 .left)))
-    (ap (λ (k : ℕ). placedAt k (set (s .args .t .now) 1 (k + 1))) (n .clock-count .ensures))))
+    let p = c .before .before in
+    let n = p .before .before in
+    let e = n .before .before in
+    let k = e .before .before in
+    parts (placed-accepted (k .before .before .before .args .t .now) (sym (k .clock-check .ensures) ∙ e .enum-told .given .1) (n .clock-count .ensures) (p .put-clock .ensures))
 
 pub new-clock-spec : {M : Type 1} → statement M
 new-clock-spec =
@@ -56,12 +45,17 @@ new-clock-spec =
     (tie.spec
     (λ c κs. search needs)
     (λ c. search needs)
+    (λ c. search needs)
     returns
+    (λ c. search needs)
     clock-count-requires
+    put-clock-requires
+    (λ c.
+    let n = c .before .before .before .before in
+    let e = n .before .before in
+    let k = e .before .before in
+    let r = clock-ready _ (sym (k .clock-check .ensures) ∙ e .enum-told .given .1) in
+    let small : n .clock-count .result < word32 = omega (arith, n .clock-count .ensures, r .1) in
+    search (needs, small))
     (λ c. search needs)
-    returns-2
-    (λ c. search needs)
-    slice-write-t
-    (λ c. search needs)
-    (λ c. search needs)
-    returns-3)
+    returns-2)

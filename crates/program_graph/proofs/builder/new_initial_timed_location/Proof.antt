@@ -8,6 +8,8 @@ use mathlib.Core.Path.{ap}
 use mathlib.Core.List.{List}
 use lib.ListN.{length, set, length-set}
 use lib.Seq.{getD-set-other}
+use Rattle.graph_tables.specs.Layout.{locationsCell, processesCell, placeCell}
+use Rattle.graph_tables.specs.Sizes.{word32}
 use Rattle.graph_tables.specs.Words.{locationCount, processCount}
 use Rattle.graph_edits.specs.Edits.{withProcess, withLocation}
 use Rattle.program_graph.specs.Building.{newInitialOf}
@@ -17,12 +19,12 @@ use Rattle.program_graph.proofs.builder.new_initial_timed_location.Stat
 use Rattle.program_graph.proofs.builder.new_initial_timed_location.Tie as tie
 
 -- a process leaves the number of locations, and of words
-process-locations : (t : List ℕ) (p l : ℕ) → locationCount (set (set t (38 + p) l) 4 (p + 1)) ≡ locationCount t
+process-locations : (t : List ℕ) (p l : ℕ) → locationCount (set (set t (placeCell p) l) processesCell (p + 1)) ≡ locationCount t
 process-locations t p l =
-    getD-set-other (set t (38 + p) l) 4 2 (p + 1) 0 (λ e. absurd (omega arith)) ∙ getD-set-other t (38 + p) 2 l 0 (λ e. absurd (omega arith))
+    getD-set-other (set t (placeCell p) l) processesCell locationsCell (p + 1) 0 (λ e. absurd (omega arith)) ∙ getD-set-other t (placeCell p) locationsCell l 0 (λ e. absurd (omega arith))
 
-process-words : (t : List ℕ) (p l : ℕ) → length (set (set t (38 + p) l) 4 (p + 1)) ≡ length t
-process-words t p l = length-set (set t (38 + p) l) 4 (p + 1) ∙ length-set t (38 + p) l
+process-words : (t : List ℕ) (p l : ℕ) → length (set (set t (placeCell p) l) processesCell (p + 1)) ≡ length t
+process-words t p l = length-set (set t (placeCell p) l) processesCell (p + 1) ∙ length-set t (placeCell p) l
 
 returns : tie.Need-returns
 unfolding newInitialOf
@@ -63,7 +65,7 @@ cast-t15 c =
     let e = n .before .before in
     let k = e .before .before in
     let r = initial-ready _ _ (sym (k .initial-check .ensures) ∙ e .enum-told .given .1) in
-    let small : n .location-count .result < 4294967296 = omega (arith, n .location-count .ensures, r .location .room) in
+    let small : n .location-count .result < word32 = omega (arith, n .location-count .ensures, r .location .room) in
     search (needs, small)
 
 returns-2 : tie.Need-returns-2

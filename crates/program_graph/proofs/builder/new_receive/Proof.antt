@@ -8,6 +8,7 @@ use Rattle.program_graph.proofs.BuildingLaws.{parts, words-of, placed-r
 use Rattle.graph_checks.proofs.ReadyActions.{receive-ready}
 use Rattle.program_graph.proofs.builder.new_receive.Statement.{statement}
 use Rattle.program_graph.proofs.builder.new_receive.Tie as tie
+use Rattle.graph_tables.specs.Sizes.{word32}
 
 returns : tie.Need-returns
 unfolding newReceiveOf
@@ -35,7 +36,7 @@ cast-t13 c =
     let e = n .before .before in
     let k = e .before .before in
     let r = receive-ready _ _ (sym (k .receive-check .ensures) ∙ e .enum-told .given .1) in
-    let small : n .action-count .result < 4294967296 = omega (arith, n .action-count .ensures, r .room) in
+    let small : n .action-count .result < word32 = omega (arith, n .action-count .ensures, r .room) in
     search (needs, small)
 
 returns-2 : tie.Need-returns-2

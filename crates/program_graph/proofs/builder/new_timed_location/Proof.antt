@@ -8,6 +8,7 @@ use Rattle.program_graph.proofs.BuildingLaws.{parts, words-of, placed-r
 use Rattle.graph_checks.proofs.ReadyParts.{location-ready}
 use Rattle.program_graph.proofs.builder.new_timed_location.Statement.{statement}
 use Rattle.program_graph.proofs.builder.new_timed_location.Tie as tie
+use Rattle.graph_tables.specs.Sizes.{word32}
 
 returns : tie.Need-returns
 unfolding newTimedLocationOf
@@ -35,7 +36,7 @@ cast-t13 c =
     let e = n .before .before in
     let k = e .before .before in
     let r = location-ready _ _ (sym (k .location-check .ensures) ∙ e .enum-told .given .1) in
-    let small : n .location-count .result < 4294967296 = omega (arith, n .location-count .ensures, r .room) in
+    let small : n .location-count .result < word32 = omega (arith, n .location-count .ensures, r .room) in
     search (needs, small)
 
 returns-2 : tie.Need-returns-2

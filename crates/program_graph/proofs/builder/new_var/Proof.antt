@@ -1,63 +1,43 @@
-use Rattle.grammar.specs.Values.{kindOf, kindWord}
+use Prim.Native.Nat.{_-_, _<_}
+use mathlib.Core.Path.{_≡_, sym, _∙_}
 use mathlib.Core.Bool.{true}
-use borrow.Author.Tests.{lt-ltb, le-ltb}
-use Rattle.laws.proofs.Tests.{held, failed}
-use Rattle.laws.proofs.Ladder.{passed, stopped}
-use Rattle.program_graph.proofs.BuildingLaws.{parts, words-of}
-use Rattle.graph_tables.specs.declared.refusals.Refusal.the-variants.{BadState, TableFull}
-use Rattle.program_graph.specs.Building.{refusedWith, placedAt, payloadOf, newVarOf}
-use Prim.Native.Nat.{ℕ, _+_, _-_}
-use mathlib.Core.Path.{_≡_, ap}
 use native.Mathlib.Omega.{arith}
-use lib.ListN.{length, set, length-set}
 use borrow.Author.Needs.{needs}
+use Rattle.graph_tables.specs.Sizes.{word32}
+use Rattle.graph_checks.proofs.ReadyParts.{var-ready}
+use Rattle.program_graph.specs.Building.{newVarOf}
+use Rattle.program_graph.proofs.BuildingLaws.{parts, words-of, placed-refused, placed-accepted}
 use Rattle.program_graph.proofs.builder.new_var.Statement.{statement}
 use Rattle.program_graph.proofs.builder.new_var.Tie as tie
-
-long : (c : tie.After-payload) → length (c .before .before .before .before .before .before .before .before .before .before .args .t .now) ≡ 46890
-long c =
-    let w = c .before .before .before .before .before .before in
-    words-of _ true (held (w .before .well-formed .ensures) (w .if1 .left))
 
 returns : tie.Need-returns
 unfolding newVarOf
 returns c =
-    let s = c .before .before .before .before in
-    parts (stopped (refusedWith BadState (s .args .t .now)) _ (failed (c .before .well-formed .ensures) (c .if1 .taken)))
+    let l = c .before in
+    let k = l .before .before in
+    parts (placed-refused (k .before .before .before .args .t .now) _ _ (sym (k .var-check .ensures) ∙ l .check .given .1))
 
 variable-count-requires : tie.Need-variable-count-requires
-variable-count-requires c κs = let w = c .before in words-of _ true (held (w .before .well-formed .ensures) (w .if1 .left))
+variable-count-requires c κs =
+    let e = c .before in
+    let k = e .before .before in
+    words-of _ true (var-ready _ (sym (k .var-check .ensures) ∙ e .enum-told .given .1) .0)
+
+put-var-requires : tie.Need-put-var-requires
+put-var-requires c κs =
+    let e = c .before .before .before .before .before .before in
+    let k = e .before .before in
+    let r = var-ready _ (sym (k .var-check .ensures) ∙ e .enum-told .given .1) in
+    (words-of _ true (r .0), r .1)
 
 returns-2 : tie.Need-returns-2
 unfolding newVarOf
 returns-2 c =
-    let n = c .before in
-    let w = n .before .before in
-    let s = w .before .before .before .before in
-    parts (passed (refusedWith BadState (s .args .t .now)) (held (w .before .well-formed .ensures) (w .if1 .left)) (stopped (refusedWith TableFull (s .args .t .now)) _ (le-ltb _ _ (rw (n .variable-count .ensures) at (c .if2 .taken)))))
-
-slice-write-t : tie.Need-slice-write-t
-slice-write-t c = omega (arith, long c)
-
-slice-write-t-2 : tie.Need-slice-write-t-2
-slice-write-t-2 c = simp length-set (omega (arith, long c))
-
-slice-write-t-3 : tie.Need-slice-write-t-3
-slice-write-t-3 c = simp length-set (omega (arith, long c))
-
-returns-3 : tie.Need-returns-3
-unfolding newVarOf
-returns-3 c =
-    let e = c .before .before .before in
-    let n = e .before in
-    let w = n .before .before in
-    let s = w .before .before .before .before in
-    parts
-    (passed (refusedWith BadState (s .args .t .now)) (held (w .before .well-formed .ensures) (w .if1 .left))
-    (passed (refusedWith TableFull (s .args .t .now)) (lt-ltb _ _ (rw (n .variable-count .ensures) at (e .if2 .left)))
-    (
-    rw (c .before .word .ensures, c .before .before .kind .ensures, c .payload .ensures)
-    (ap (λ (k : ℕ). placedAt k (set (set (set (s .args .t .now) (6 + k) (kindWord (kindOf (s .args .val)))) (22 + k) (payloadOf (s .args .val))) 0 (k + 1))) (n .variable-count .ensures)))))
+    let p = c .before .before in
+    let n = p .before .before .before .before .before in
+    let e = n .before .before in
+    let k = e .before .before in
+    parts (placed-accepted (k .before .before .before .args .t .now) (sym (k .var-check .ensures) ∙ e .enum-told .given .1) (n .variable-count .ensures) (p .put-var .ensures ∙ rw (p .before .before .before .word .ensures, p .before .before .before .before .kind .ensures, p .before .before .payload .ensures)))
 
 pub new-var-spec : {M : Type 1} → statement M
 new-var-spec =
@@ -65,21 +45,20 @@ new-var-spec =
     (tie.spec
     (λ c κs. search needs)
     (λ c. search needs)
+    (λ c. search needs)
     returns
+    (λ c. search needs)
     variable-count-requires
-    (λ c. search needs)
-    returns-2
     (λ c κs. search needs)
     (λ c κs. search needs)
     (λ c κs. search needs)
+    put-var-requires
+    (λ c.
+    let n = c .before .before .before .before .before .before .before in
+    let e = n .before .before in
+    let k = e .before .before in
+    let r = var-ready _ (sym (k .var-check .ensures) ∙ e .enum-told .given .1) in
+    let small : n .variable-count .result < word32 = omega (arith, n .variable-count .ensures, r .1) in
+    search (needs, small))
     (λ c. search needs)
-    (λ c. search needs)
-    slice-write-t
-    (λ c. search needs)
-    (λ c. search needs)
-    slice-write-t-2
-    (λ c. search needs)
-    slice-write-t-3
-    (λ c. search needs)
-    (λ c. search needs)
-    returns-3)
+    returns-2)

@@ -1,11 +1,13 @@
-use native.Mathlib.Omega.{arith}
-use lib.ListN.{length-set}
 use borrow.Author.Needs.{needs}
 use Rattle.graph_edits.proofs.inner.actions.put_effect.Statement.{statement}
 use Rattle.graph_edits.proofs.inner.actions.put_effect.Tie as tie
 
-slice-write-t-2 : tie.Need-slice-write-t-2
-slice-write-t-2 c = simp length-set (omega arith)
+returns : tie.Need-returns
+returns c =
+    let d = c .before .before in
+    let v = d .before .before .before .before in
+    let p = v .before .before .before .before in
+    rw (d .set-effect-count .ensures, v .set-effect-var .ensures, p .put-expression .ensures, p .before .before .effect-count .ensures)
 
 pub put-effect-spec : {M : Type 1} → statement M
 put-effect-spec =
@@ -13,15 +15,8 @@ put-effect-spec =
     (tie.spec
     (λ c κs. search needs)
     (λ c κs. search needs)
+    (λ c κs. search needs)
     (λ c. search needs)
+    (λ c κs. search needs)
     (λ c. search needs)
-    (λ c. search needs)
-    (λ c. search needs)
-    (λ c. search needs)
-    (λ c. search needs)
-    (λ c. search needs)
-    (λ c. search needs)
-    (λ c. search needs)
-    slice-write-t-2
-    (λ c. search needs)
-    (λ c. cc))
+    returns)

@@ -2,7 +2,7 @@ use Prim.Native.Nat.{_-_, _≤_}
 use mathlib.Core.Path.{_≡_, _∙_}
 use native.Mathlib.Omega.{arith}
 use native.Mathlib.Numerals.{add-one}
-use lib.ListN.{length, length-set}
+use lib.ListN.{length}
 use borrow.Author.Needs.{needs}
 use Rattle.graph_edits.specs.Edits.{withTargets}
 use Rattle.graph_edits.proofs.inner.actions.put_targets.Statement.{statement}
@@ -20,11 +20,14 @@ loop-holds c = search needs
 
 loop-again : tie.Need-loop-again Inv-loop μ-loop
 unfolding withTargets
-loop-again c = (omega arith, (simp length-set (omega arith), rw add-one (cc)))
+loop-again c =
+    let p = c .before .before in
+    let l = p .before .before .before .before .before in
+    (omega arith, (omega arith, rw (p .set-effect-var .ensures, l .loop .inv .1 .1, add-one)))
 
 returns : tie.Need-returns Inv-loop μ-loop
 returns c =
-    let e : c .before .loop .e ≡ c .before .before .args .t3 .count = omega arith in
+    let e : c .before .loop .e ≡ c .before .before .before .args .t3 .count = omega arith in
     c .before .loop .inv .1 .1 ∙ rw e
 
 pub put-targets-spec : {M : Type 1} → statement M
@@ -37,11 +40,7 @@ put-targets-spec =
     (λ c. search needs)
     (λ c. search needs)
     (λ c. search needs)
-    (λ c. search needs)
-    (λ c. search needs)
-    (λ c. search needs)
-    (λ c. search needs)
-    (λ c. search needs)
+    (λ c κs. search needs)
     (λ c. search needs)
     (λ c. search needs)
     loop-again

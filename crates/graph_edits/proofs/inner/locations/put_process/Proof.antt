@@ -3,17 +3,18 @@ use Rattle.graph_edits.proofs.inner.locations.put_process.Statement.{st
 use Rattle.graph_edits.proofs.inner.locations.put_process.Tie as tie
 
 returns : tie.Need-returns
-returns c = rw (c .process-count .ensures)
+returns c =
+    let d = c .before .before in
+    let p = d .before .before .before .before in
+    rw (d .set-process-count .ensures, p .set-place .ensures, p .before .before .process-count .ensures)
 
 pub put-process-spec : {M : Type 1} → statement M
 put-process-spec =
     tie.close
     (tie.spec
     (λ c κs. search needs)
+    (λ c κs. search needs)
     (λ c. search needs)
-    (λ c. search needs)
-    (λ c. search needs)
-    (λ c. search needs)
-    (λ c. search needs)
+    (λ c κs. search needs)
     (λ c. search needs)
     returns)

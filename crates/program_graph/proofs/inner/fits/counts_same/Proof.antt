@@ -27,7 +27,7 @@ returns-3 c =
     let a = v .before in
     let s = a .before .before .before .before in
     and-yes (eq-eqb _ _ (rw (a .before .before .process-count .ensures) at (a .if1 .left)))
-    (and-yes (eq-eqb _ _ (rw (v .variable-count .ensures) at (b .if2 .left))) (ap (eqb (s .args .run .timers)) (n .clock-count .ensures)))
+    (and-yes (eq-eqb _ _ (rw (v .variable-count .ensures) at (b .if2 .left))) (ap (eqb (s .args .run .clocks)) (n .clock-count .ensures)))
 
 pub counts-same-spec : {M : Type 1} → statement M
 counts-same-spec =

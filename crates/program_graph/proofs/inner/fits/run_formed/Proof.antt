@@ -8,7 +8,7 @@ use borrow.Author.Tests.{eqb-true}
 use Rattle.laws.proofs.BelowLaws.{and-yes, and-no, and-first, and-rest}
 use Rattle.laws.proofs.Tests.{held, failed}
 use Rattle.graph_tables.specs.Words.{variableCount, processCount}
-use Rattle.program_graph.specs.declared.run.ProgramGraphRun.{ProgramGraphRun}
+use Rattle.program_graph.specs.declared.record.ProgramGraphRun.{ProgramGraphRun}
 use Rattle.program_graph.specs.Running.{countsSame, runFormed}
 use Rattle.program_graph.proofs.inner.fits.run_formed.Statement.{statement}
 use Rattle.program_graph.proofs.inner.fits.run_formed.Tie as tie

@@ -3,11 +3,10 @@ use borrow.Author.Needs.{needs}
 use native.Mathlib.Omega.{arith}
 use Rattle.laws.proofs.Ladder.{passed, stopped}
 use Rattle.laws.proofs.Tests.{held, failed}
-use Rattle.graph_tables.specs.declared.refusals.Refusal.the-variants as R
 use mathlib.Core.List.{List}
 use Rattle.grammar.specs.declared.values.Slot.{Slot}
-use Rattle.program_graph.specs.Running.{refusedRun, acceptedRun, movedTo}
-use Rattle.program_graph.specs.Messaging.{heardOf}
+use Rattle.program_graph.specs.Running.{movedTo}
+use Rattle.program_graph.specs.Messaging.{refusedReceive, acceptedReceive, heardOf}
 use Rattle.program_graph.proofs.RunLaws.{few-processes}
 use Rattle.program_graph.proofs.inner.messages.hear.Statement.{statement}
 use Rattle.program_graph.proofs.inner.messages.hear.Tie as tie
@@ -17,7 +16,7 @@ unfolding heardOf
 returns c =
     let r = c .before .before in
     let run = r .before .before .before .args .run in
-    c .refused .ensures ∙ stopped (refusedRun R.TypeMismatch run) _ (failed (r .message-fits .ensures) (c .before .if1 .taken))
+    c .refused-receive .ensures ∙ stopped (refusedReceive 5 run) _ (failed (r .message-fits .ensures) (c .before .if1 .taken))
 
 moved-to-requires : tie.Need-moved-to-requires
 moved-to-requires c κs =
@@ -27,14 +26,12 @@ moved-to-requires c κs =
 returns-2 : tie.Need-returns-2
 unfolding heardOf
 returns-2 c =
-    let m = c .before in
-    let k = m .before in
+    let k = c .before in
     let e = k .before .before .before in
     let r = e .before in
     let s = r .before .before .before .args in
-    c .accepted .ensures
-    ∙ passed (refusedRun R.TypeMismatch (s .run)) (held (r .message-fits .ensures) (e .if1 .left))
-    (ap acceptedRun (m .moved-to .ensures ∙ ap (λ (vars : List Slot). movedTo (s .run) (s .posts .now) vars (s .run .clocks)) (k .taken .ensures)))
+    passed (refusedReceive 5 (s .run)) (held (r .message-fits .ensures) (e .if1 .left))
+    (ap acceptedReceive (c .moved-to .ensures ∙ ap (λ (vars : List Slot). movedTo (s .run) (s .posts .now) vars (s .run .times)) (k .taken .ensures)))
 
 pub hear-spec : {M : Type 1} → statement M
-hear-spec = tie.close (tie.spec (λ c κs. search needs) (λ c κs. search needs) returns (λ c κs. search needs) moved-to-requires (λ c κs. search needs) returns-2)
+hear-spec = tie.close (tie.spec (λ c κs. search needs) (λ c κs. search needs) returns (λ c κs. search needs) moved-to-requires returns-2)

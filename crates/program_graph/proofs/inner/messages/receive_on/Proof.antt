@@ -4,9 +4,8 @@ use borrow.Author.Needs.{needs}
 use borrow.Author.Tests.{eq-eqb, ne-eqb}
 use Rattle.laws.proofs.Ladder.{passed, stopped}
 use Rattle.laws.proofs.Tests.{held, failed}
-use Rattle.graph_tables.specs.declared.refusals.Refusal.the-variants as R
-use Rattle.program_graph.specs.Running.{refusedRun}
-use Rattle.program_graph.specs.Messaging.{receivedOf}
+use Rattle.graph_tables.specs.Sizes.{receiveKind}
+use Rattle.program_graph.specs.Messaging.{refusedReceive, receivedOf}
 use Rattle.program_graph.proofs.RunLaws.{of-kind}
 use Rattle.program_graph.proofs.inner.messages.receive_on.Statement.{statement}
 use Rattle.program_graph.proofs.inner.messages.receive_on.Tie as tie
@@ -15,16 +14,16 @@ returns : tie.Need-returns
 unfolding receivedOf
 returns c =
     let run = c .before .before .before .before .before .args .run in
-    c .refused .ensures ∙ stopped (refusedRun R.NotReceive run) _ (ap not (eq-eqb _ _ (c .before .if1 .taken)))
+    c .refused-receive .ensures ∙ stopped (refusedReceive 15 run) _ (ap not (eq-eqb _ _ (c .before .if1 .taken)))
 
 returns-2 : tie.Need-returns-2
 unfolding receivedOf
 returns-2 c =
     let e = c .before .before .before in
     let run = e .before .before .before .before .args .run in
-    c .refused2 .ensures
-    ∙ passed (refusedRun R.NotReceive run) (ap not (ne-eqb _ _ (e .if1 .left)))
-    (stopped (refusedRun R.MismatchingPostStates run) _ (ne-eqb _ _ (c .before .if2 .taken)))
+    c .refused-receive2 .ensures
+    ∙ passed (refusedReceive 15 run) (ap not (ne-eqb _ _ (e .if1 .left)))
+    (stopped (refusedReceive 7 run) _ (ne-eqb _ _ (c .before .if2 .taken)))
 
 returns-3 : tie.Need-returns-3
 unfolding receivedOf
@@ -33,10 +32,10 @@ returns-3 c =
     let f = r .before in
     let e = f .before .before in
     let run = e .before .before .before .before .args .run in
-    c .refused3 .ensures
-    ∙ passed (refusedRun R.NotReceive run) (ap not (ne-eqb _ _ (e .if1 .left)))
-    (passed (refusedRun R.MismatchingPostStates run) (eq-eqb _ _ (f .if2 .left))
-    (stopped (refusedRun R.UnsatisfiedGuard run) _ (failed (r .ready-still .ensures) (c .before .if3 .taken))))
+    c .refused-receive3 .ensures
+    ∙ passed (refusedReceive 15 run) (ap not (ne-eqb _ _ (e .if1 .left)))
+    (passed (refusedReceive 7 run) (eq-eqb _ _ (f .if2 .left))
+    (stopped (refusedReceive 8 run) _ (failed (r .ready-still .ensures) (c .before .if3 .taken))))
 
 returns-4 : tie.Need-returns-4
 unfolding receivedOf
@@ -47,11 +46,11 @@ returns-4 c =
     let f = r .before in
     let e = f .before .before in
     let run = e .before .before .before .before .args .run in
-    c .refused4 .ensures
-    ∙ passed (refusedRun R.NotReceive run) (ap not (ne-eqb _ _ (e .if1 .left)))
-    (passed (refusedRun R.MismatchingPostStates run) (eq-eqb _ _ (f .if2 .left))
-    (passed (refusedRun R.UnsatisfiedGuard run) (held (r .ready-still .ensures) (g .if3 .left))
-    (stopped (refusedRun R.NotReceive run) _ (failed (k .is-kind .ensures) (c .before .if4 .taken)))))
+    c .refused-receive4 .ensures
+    ∙ passed (refusedReceive 15 run) (ap not (ne-eqb _ _ (e .if1 .left)))
+    (passed (refusedReceive 7 run) (eq-eqb _ _ (f .if2 .left))
+    (passed (refusedReceive 8 run) (held (r .ready-still .ensures) (g .if3 .left))
+    (stopped (refusedReceive 15 run) _ (failed (k .is-kind .ensures) (c .before .if4 .taken)))))
 
 hear-requires : tie.Need-hear-requires
 hear-requires c κs =
@@ -59,7 +58,7 @@ hear-requires c κs =
     let f = k .before .before .before in
     let s = f .before .before .before .before .before .before in
     let p = s .pre in
-    let q = of-kind (s .args .t .now) (s .args .action) 2 (held (k .is-kind .ensures) (c .if4 .left)) in
+    let q = of-kind (s .args .t .now) (s .args .action) receiveKind (held (k .is-kind .ensures) (c .if4 .left)) in
     (p .0, p .1, f .if2 .left, q .0, q .1)
 
 returns-5 : tie.Need-returns-5
@@ -72,10 +71,10 @@ returns-5 c =
     let f = r .before in
     let e = f .before .before in
     let run = e .before .before .before .before .args .run in
-    passed (refusedRun R.NotReceive run) (ap not (ne-eqb _ _ (e .if1 .left)))
-    (passed (refusedRun R.MismatchingPostStates run) (eq-eqb _ _ (f .if2 .left))
-    (passed (refusedRun R.UnsatisfiedGuard run) (held (r .ready-still .ensures) (g .if3 .left))
-    (passed (refusedRun R.NotReceive run) (held (k .is-kind .ensures) (h .if4 .left)) (c .hear .ensures))))
+    passed (refusedReceive 15 run) (ap not (ne-eqb _ _ (e .if1 .left)))
+    (passed (refusedReceive 7 run) (eq-eqb _ _ (f .if2 .left))
+    (passed (refusedReceive 8 run) (held (r .ready-still .ensures) (g .if3 .left))
+    (passed (refusedReceive 15 run) (held (k .is-kind .ensures) (h .if4 .left)) (c .hear .ensures))))
 
 pub receive-on-spec : {M : Type 1} → statement M
 receive-on-spec = tie.close (tie.spec (λ c κs. search needs) returns (λ c κs. search needs) returns-2 (λ c κs. search needs) (λ c κs. search needs) returns-3 (λ c κs. search needs) (λ c κs. search needs) returns-4 hear-requires returns-5)

@@ -3,7 +3,6 @@ use borrow.Author.Needs.{needs}
 use native.Mathlib.Omega.{arith}
 use Rattle.laws.proofs.Ladder.{passed, stopped}
 use Rattle.laws.proofs.Tests.{held, failed}
-use Rattle.graph_tables.specs.declared.refusals.Refusal.the-variants as R
 use Rattle.graph_steps.specs.declared.inner.effects.Effected.{Effected}
 use Rattle.program_graph.specs.Messaging.{refusedSend, saidOf}
 use Rattle.program_graph.proofs.RunLaws.{few-processes}
@@ -15,7 +14,7 @@ unfolding saidOf
 returns c =
     let s = c .before .before .before in
     let run = s .before .before .before .before .before .args .run in
-    c .refused-send .ensures ∙ stopped (refusedSend R.Overflow run) _ (failed (ap (λ (x : Effected). x .fits) (s .spoken .ensures)) (c .before .if1 .taken))
+    c .refused-send .ensures ∙ stopped (refusedSend 26 run) _ (failed (ap (λ (x : Effected). x .fits) (s .spoken .ensures)) (c .before .if1 .taken))
 
 moved-to-requires : tie.Need-moved-to-requires
 moved-to-requires c κs =
@@ -30,7 +29,7 @@ returns-2 c =
     let e = n .before .before in
     let s = e .before .before in
     let run = s .before .before .before .before .before .args .run in
-    passed (refusedSend R.Overflow run) (held (ap (λ (x : Effected). x .fits) (s .spoken .ensures)) (e .if1 .left))
+    passed (refusedSend 26 run) (held (ap (λ (x : Effected). x .fits) (s .spoken .ensures)) (e .if1 .left))
     (rw (c .moved-to .ensures, m .message .ensures, n .effect-count .ensures, s .spoken .ensures))
 
 pub say-spec : {M : Type 1} → statement M

@@ -2,8 +2,7 @@ use mathlib.Core.Path.{_∙_}
 use borrow.Author.Needs.{needs}
 use borrow.Author.Tests.{lt-ltb, le-ltb, eq-eqb, ne-eqb}
 use Rattle.laws.proofs.Ladder.{passed, stopped}
-use Rattle.graph_tables.specs.declared.refusals.Refusal.the-variants as R
-use Rattle.program_graph.specs.Running.{refusedRun, actedOf}
+use Rattle.program_graph.specs.Running.{refused, actedOf}
 use Rattle.program_graph.proofs.inner.steps.acted.Statement.{statement}
 use Rattle.program_graph.proofs.inner.steps.acted.Tie as tie
 
@@ -12,7 +11,7 @@ unfolding actedOf
 returns c =
     let n = c .before .before in
     let run = n .before .before .before .args .run in
-    c .refused .ensures ∙ stopped (refusedRun R.MissingAction run) _ (le-ltb _ _ (rw (n .action-count .ensures) at (c .before .if1 .taken)))
+    c .refused .ensures ∙ stopped (refused 1 run) _ (le-ltb _ _ (rw (n .action-count .ensures) at (c .before .if1 .taken)))
 
 returns-2 : tie.Need-returns-2
 unfolding actedOf
@@ -22,8 +21,8 @@ returns-2 c =
     let n = b .before in
     let run = n .before .before .before .args .run in
     c .refused2 .ensures
-    ∙ passed (refusedRun R.MissingAction run) (lt-ltb _ _ (rw (n .action-count .ensures) at (b .if1 .left)))
-    (stopped (refusedRun R.Communication run) _ (ne-eqb _ _ (rw (k .action-kind .ensures) at (c .before .if2 .taken))))
+    ∙ passed (refused 1 run) (lt-ltb _ _ (rw (n .action-count .ensures) at (b .if1 .left)))
+    (stopped (refused 13 run) _ (ne-eqb _ _ (rw (k .action-kind .ensures) at (c .before .if2 .taken))))
 
 returns-3 : tie.Need-returns-3
 unfolding actedOf
@@ -33,8 +32,8 @@ returns-3 c =
     let b = k .before in
     let n = b .before in
     let run = n .before .before .before .args .run in
-    passed (refusedRun R.MissingAction run) (lt-ltb _ _ (rw (n .action-count .ensures) at (b .if1 .left)))
-    (passed (refusedRun R.Communication run) (eq-eqb _ _ (rw (k .action-kind .ensures) at (d .if2 .left))) (c .plain .ensures))
+    passed (refused 1 run) (lt-ltb _ _ (rw (n .action-count .ensures) at (b .if1 .left)))
+    (passed (refused 13 run) (eq-eqb _ _ (rw (k .action-kind .ensures) at (d .if2 .left))) (c .plain .ensures))
 
 pub acted-spec : {M : Type 1} → statement M
 acted-spec =

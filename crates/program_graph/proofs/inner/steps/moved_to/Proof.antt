@@ -13,10 +13,10 @@ returns c =
     record {
       places = places;
       vars = s .vars;
-      clocks = s .clocks;
+      times = s .times;
       processes = s .run .processes;
       variables = s .run .variables;
-      timers = s .run .timers;
+      clocks = s .run .clocks;
     })
     (c .placed .ensures)
 

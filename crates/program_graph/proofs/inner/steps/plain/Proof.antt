@@ -5,10 +5,9 @@ use borrow.Author.Needs.{needs}
 use native.Mathlib.Omega.{arith}
 use Rattle.laws.proofs.Ladder.{passed, stopped}
 use Rattle.laws.proofs.Tests.{held, failed}
-use Rattle.graph_tables.specs.declared.refusals.Refusal.the-variants as R
 use Rattle.graph_steps.specs.declared.inner.effects.Effected.{Effected}
-use Rattle.program_graph.specs.Running.{refusedRun, acceptedRun, movedTo, plainOf}
-use Rattle.program_graph.specs.declared.run.ProgramGraphRun.{ProgramGraphRun}
+use Rattle.program_graph.specs.Running.{refused, accepted, movedTo, plainOf}
+use Rattle.program_graph.specs.declared.record.ProgramGraphRun.{ProgramGraphRun}
 use Rattle.program_graph.proofs.RunLaws.{few-processes}
 use Rattle.program_graph.proofs.inner.steps.plain.Statement.{statement}
 use Rattle.program_graph.proofs.inner.steps.plain.Tie as tie
@@ -28,7 +27,7 @@ returns c =
     let r = c .before .before in
     let k = r .before in
     let run = k .before .before .before .before .before .before .args .run in
-    c .refused .ensures ∙ stopped (refusedRun R.UnsatisfiedGuard run) _ (failed (rw (k .clocks-after .ensures) at (r .ready .ensures)) (c .before .if1 .taken))
+    c .refused .ensures ∙ stopped (refused 8 run) _ (failed (rw (k .clocks-after .ensures) at (r .ready .ensures)) (c .before .if1 .taken))
 
 returns-2 : tie.Need-returns-2
 unfolding plainOf
@@ -39,8 +38,8 @@ returns-2 c =
     let k = r .before in
     let run = k .before .before .before .before .before .before .args .run in
     c .refused2 .ensures
-    ∙ passed (refusedRun R.UnsatisfiedGuard run) (held (rw (k .clocks-after .ensures) at (r .ready .ensures)) (e .if1 .left))
-    (stopped (refusedRun R.Overflow run) _ (failed (ap (λ (x : Effected). x .fits) (f .run-effects .ensures)) (c .before .if2 .taken)))
+    ∙ passed (refused 8 run) (held (rw (k .clocks-after .ensures) at (r .ready .ensures)) (e .if1 .left))
+    (stopped (refused 26 run) _ (failed (ap (λ (x : Effected). x .fits) (f .run-effects .ensures)) (c .before .if2 .taken)))
 
 moved-to-requires : tie.Need-moved-to-requires
 moved-to-requires c κs =
@@ -58,9 +57,9 @@ returns-3 c =
     let k = r .before in
     let s = k .before .before .before .before .before .before .args in
     c .accepted .ensures
-    ∙ passed (refusedRun R.UnsatisfiedGuard (s .run)) (held (rw (k .clocks-after .ensures) at (r .ready .ensures)) (e .if1 .left))
-    (passed (refusedRun R.Overflow (s .run)) (held (ap (λ (x : Effected). x .fits) (f .run-effects .ensures)) (d .if2 .left))
-    (ap acceptedRun (c .before .moved-to .ensures ∙ moved (s .run) (s .posts .now) (f .run-effects .ensures) (k .clocks-after .ensures))))
+    ∙ passed (refused 8 (s .run)) (held (rw (k .clocks-after .ensures) at (r .ready .ensures)) (e .if1 .left))
+    (passed (refused 26 (s .run)) (held (ap (λ (x : Effected). x .fits) (f .run-effects .ensures)) (d .if2 .left))
+    (ap accepted (c .before .moved-to .ensures ∙ moved (s .run) (s .posts .now) (f .run-effects .ensures) (k .clocks-after .ensures))))
 
 pub plain-spec : {M : Type 1} → statement M
 plain-spec =

@@ -3,8 +3,7 @@ use borrow.Author.Needs.{needs}
 use borrow.Author.Tests.{eq-eqb, ne-eqb}
 use Rattle.laws.proofs.Ladder.{passed, stopped}
 use Rattle.laws.proofs.Tests.{held, failed}
-use Rattle.graph_tables.specs.declared.refusals.Refusal.the-variants as R
-use Rattle.program_graph.specs.Running.{refusedRun, stepOf}
+use Rattle.program_graph.specs.Running.{refused, stepOf}
 use Rattle.program_graph.proofs.RunLaws.{chosen, left-over}
 use Rattle.program_graph.proofs.inner.steps.step.Statement.{statement}
 use Rattle.program_graph.proofs.inner.steps.step.Tie as tie
@@ -13,7 +12,7 @@ returns : tie.Need-returns
 unfolding stepOf
 returns c =
     let run = c .before .before .before .before .before .args .run in
-    c .refused .ensures ∙ stopped (refusedRun R.MismatchingPostStates run) _ (ne-eqb _ _ (c .before .if1 .taken))
+    c .refused .ensures ∙ stopped (refused 7 run) _ (ne-eqb _ _ (c .before .if1 .taken))
 
 returns-2 : tie.Need-returns-2
 unfolding stepOf
@@ -22,8 +21,8 @@ returns-2 c =
     let b = k .before in
     let run = b .before .before .before .before .args .run in
     c .refused2 .ensures
-    ∙ passed (refusedRun R.MismatchingPostStates run) (eq-eqb _ _ (b .if1 .left))
-    (stopped (refusedRun R.MissingLocation run) _ (failed (k .posts-known .ensures) (c .before .if2 .taken)))
+    ∙ passed (refused 7 run) (eq-eqb _ _ (b .if1 .left))
+    (stopped (refused 3 run) _ (failed (k .posts-known .ensures) (c .before .if2 .taken)))
 
 returns-3 : tie.Need-returns-3
 unfolding stepOf
@@ -32,8 +31,8 @@ returns-3 c =
     let k = d .before in
     let b = k .before in
     let run = b .before .before .before .before .args .run in
-    passed (refusedRun R.MismatchingPostStates run) (eq-eqb _ _ (b .if1 .left))
-    (passed (refusedRun R.MissingLocation run) (held (k .posts-known .ensures) (d .if2 .left)) (chosen _ (eq-eqb _ _ (c .before .if3 .taken)) (c .idle .ensures)))
+    passed (refused 7 run) (eq-eqb _ _ (b .if1 .left))
+    (passed (refused 3 run) (held (k .posts-known .ensures) (d .if2 .left)) (chosen _ (eq-eqb _ _ (c .before .if3 .taken)) (c .autonomous .ensures)))
 
 returns-4 : tie.Need-returns-4
 unfolding stepOf
@@ -42,8 +41,8 @@ returns-4 c =
     let k = d .before in
     let b = k .before in
     let run = b .before .before .before .before .args .run in
-    passed (refusedRun R.MismatchingPostStates run) (eq-eqb _ _ (b .if1 .left))
-    (passed (refusedRun R.MissingLocation run) (held (k .posts-known .ensures) (d .if2 .left)) (left-over _ (ne-eqb _ _ (c .before .if3 .left)) (c .acted .ensures)))
+    passed (refused 7 run) (eq-eqb _ _ (b .if1 .left))
+    (passed (refused 3 run) (held (k .posts-known .ensures) (d .if2 .left)) (left-over _ (ne-eqb _ _ (c .before .if3 .left)) (c .acted .ensures)))
 
 pub step-spec : {M : Type 1} → statement M
 step-spec =

@@ -1,12 +1,12 @@
 use borrow.Author.Needs.{needs}
 use Rattle.laws.proofs.Tests.{held, failed}
 use Rattle.laws.proofs.BelowLaws.{and-yes, and-no}
-use Rattle.program_graph.proofs.RunLaws.{few-timers}
+use Rattle.program_graph.proofs.RunLaws.{few-clocks}
 use Rattle.program_graph.proofs.inner.waits.can_wait_on.Statement.{statement}
 use Rattle.program_graph.proofs.inner.waits.can_wait_on.Tie as tie
 
 clocks-fit-requires : tie.Need-clocks-fit-requires
-clocks-fit-requires c κs = let p = c .before .before .pre in few-timers _ _ (p .0) (p .1)
+clocks-fit-requires c κs = let p = c .before .before .pre in few-clocks _ _ (p .0) (p .1)
 
 returns : tie.Need-returns
 returns c = and-no _ (failed (c .before .clocks-fit .ensures) (c .if1 .taken))
@@ -15,7 +15,7 @@ shifted-requires : tie.Need-shifted-requires
 shifted-requires c κs =
     let k = c .before in
     let p = k .before .before .before .pre in
-    (few-timers _ _ (p .0) (p .1), held (k .clocks-fit .ensures) (c .if1 .left))
+    (few-clocks _ _ (p .0) (p .1), held (k .clocks-fit .ensures) (c .if1 .left))
 
 returns-2 : tie.Need-returns-2
 returns-2 c =

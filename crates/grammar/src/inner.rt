@@ -1,0 +1,3 @@
+// For the crates above: functions that ask something of their caller.
+pub mod evaluation;
+pub mod slots;

@@ -1,0 +1,35 @@
+use Prim.Native.Nat.{_-_, _≤_}
+use mathlib.Core.Bool.{true}
+use mathlib.Core.Path.{_≡_, sym}
+use native.Mathlib.Omega.{arith}
+use borrow.Author.Needs.{needs}
+use Rattle.laws.proofs.BelowLaws.{all-none, all-more, all-fails, all-done}
+use Rattle.laws.proofs.Tests.{held, failed}
+use Rattle.laws.specs.Below.{allBelow}
+use Rattle.graph_checks.specs.Checks.{clockKnown, clocksKnown}
+use Rattle.graph_checks.proofs.checks.clocks_known.Statement.{statement}
+use Rattle.graph_checks.proofs.checks.clocks_known.Tie as tie
+
+abbrev Inv-loop : tie.InvT-loop
+Inv-loop t handed i₀ i-end i = (i ≤ i-end) × (allBelow i (clockKnown t handed) ≡ true)
+
+abbrev μ-loop : tie.MeasureT-loop
+μ-loop t handed i₀ i-end i = i-end - i
+
+loop-holds : tie.Need-loop-holds Inv-loop μ-loop
+loop-holds c = (search needs, all-none _)
+
+returns : tie.Need-returns Inv-loop μ-loop
+unfolding clocksKnown
+returns c = sym (all-fails _ _ (c .before .before .before .loop .i) (omega arith) (failed (c .before .clock-known .ensures) (c .if1 .taken)))
+
+loop-again : tie.Need-loop-again Inv-loop μ-loop
+loop-again c = (omega arith, all-more _ _ (c .before .before .before .loop .inv .1) (held (c .before .clock-known .ensures) (c .if1 .left)))
+
+returns-2 : tie.Need-returns-2 Inv-loop μ-loop
+unfolding clocksKnown
+returns-2 c = sym (all-done _ _ (c .before .loop .i) (omega arith) (omega arith) (c .before .loop .inv .1))
+
+pub clocks-known-spec : {M : Type 1} → statement M
+clocks-known-spec =
+    tie.close (tie.spec Inv-loop μ-loop loop-holds (λ c κs. search needs) returns (λ c. search needs) (λ c. search needs) loop-again returns-2)

@@ -1,0 +1,11 @@
+pub mod StepLaws
+pub mod AnyLaws
+pub mod LimitLaws
+pub mod KeyLaws
+pub mod VarLaws
+pub mod MessageLaws
+pub mod ListingLaws
+pub mod Catalogs
+pub mod ListingTheorems
+pub mod UsedLaws
+pub mod AgreeLaws

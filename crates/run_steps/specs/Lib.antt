@@ -1,0 +1,6 @@
+pub mod Steps
+pub mod Inner
+pub mod Messages
+pub mod Waiting
+pub mod Listing
+pub mod Rows

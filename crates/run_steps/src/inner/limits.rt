@@ -1,0 +1,76 @@
+// Limits of transitions and invariants of locations, on clocks that are lent.
+use graph_tables::inner;
+ghost use mathlib.Core.Path.{_≡_};
+ghost use Prim.Native.Nat.{_<_};
+ghost use lib.ListN.{length};
+ghost use Rattle.time.specs.Time.{lowerMet, upperMet};
+ghost use Rattle.graph_tables.specs.Sizes.{clockRoom, groupRoom, limitRoom};
+ghost use Rattle.graph_tables.specs.Words.{Words, clockOf, locationCount, boundOf};
+ghost use Rattle.graph_tables.specs.Sound.{Sound, LimitsSound};
+ghost use Rattle.run_steps.specs.Steps.{limitHolds, limitsHold, invariantsHold};
+
+// The lower bound that a word stands for is met at a time.
+pub fn lower_met(w: u64, time: u64) -> bool
+    ensures { λ r. ⌜ r ≡ lowerMet (boundOf w) time ⌝ }
+{
+    let kind = w % 4;
+    if kind == 1 {
+        return w / 4 <= time;
+    }
+    if kind == 2 {
+        return w / 4 < time;
+    }
+    true
+}
+
+// The upper bound that a word stands for is met at a time.
+pub fn upper_met(w: u64, time: u64) -> bool
+    ensures { λ r. ⌜ r ≡ upperMet (boundOf w) time ⌝ }
+{
+    let kind = w % 4;
+    if kind == 1 {
+        return time <= w / 4;
+    }
+    if kind == 2 {
+        return time < w / 4;
+    }
+    true
+}
+
+// Limit i of a group holds.
+fn limit_holds(t: &[u64], g: usize, i: usize, clocks: &[u64]) -> bool
+    requires { ⌜ Words (now t) × (g < groupRoom) × (i < limitRoom) × (clockOf (now t) g i < length (now clocks)) ⌝ }
+    ensures { λ r. ⌜ r ≡ limitHolds (now (t .entry)) g (now (clocks .entry)) i ⌝ }
+{
+    let time = clocks[inner::clock_of(t, g, i)];
+    if !lower_met(inner::lower_of(t, g, i), time) {
+        return false;
+    }
+    upper_met(inner::upper_of(t, g, i), time)
+}
+
+// Every limit of a group holds.
+pub fn limits_hold(t: &[u64], g: usize, n: usize, clocks: &[u64]) -> bool
+    requires { ⌜ Sound (now t) × (g < groupRoom) × LimitsSound (now t) g n × (length (now clocks) ≡ clockRoom) ⌝ }
+    ensures { λ r. ⌜ r ≡ limitsHold (now (t .entry)) g n (now (clocks .entry)) ⌝ }
+{
+    for i in 0..n {
+        if !limit_holds(t, g, i, clocks) {
+            return false;
+        }
+    }
+    true
+}
+
+// Every invariant of a location holds.
+pub fn invariants_hold(t: &[u64], l: usize, clocks: &[u64]) -> bool
+    requires { ⌜ Sound (now t) × (l < locationCount (now t)) × (length (now clocks) ≡ clockRoom) ⌝ }
+    ensures { λ r. ⌜ r ≡ invariantsHold (now (t .entry)) (now (clocks .entry)) l ⌝ }
+{
+    limits_hold(
+        t,
+        inner::invariant_group(l),
+        inner::invariant_count(t, l),
+        clocks,
+    )
+}

@@ -1,0 +1,2 @@
+// What a step and a wait of one graph ask, and what they leave.
+pub mod inner;
