@@ -5,9 +5,13 @@ pub mod AnswerLaws
 pub mod SaidLaws
 pub mod RunLaws
 pub mod RunReady
+pub mod RunExactly
+pub mod WaitingExactly
+pub mod VariableTheorems
 pub mod RunTheorems
 pub mod RunKept
 pub mod RunChains
+pub mod ClockTheorems
 pub mod KeptCalls
 pub mod Theorems
 pub mod MarkedLaws

@@ -109,11 +109,11 @@ module _ (t : List ℕ) (run : ProgramGraphRun) (posts : List ℕ) where
   all-pass a after = ready-exactly t (run .vars) (run .times) after (run .places) (run .processes) a posts
 
   -- what is asked passes the rungs before the guards
-  reached-autonomous : (word : ℕ) → StepAsked t run posts → autonomousOf t run posts ≡ transitionOf t run epsilon posts word
+  pub reached-autonomous : (word : ℕ) → StepAsked t run posts → autonomousOf t run posts ≡ transitionOf t run epsilon posts word
   unfolding transitionOf stepOf
   reached-autonomous word q = passed _ (q .fits) (passed _ (eq-eqb _ _ (q .one-each)) (passed _ (posts-known q) refl))
 
-  reached-plain : (a word : ℕ) → PlainAsked t run a posts → plainOf t run a posts word ≡ transitionOf t run a posts word
+  pub reached-plain : (a word : ℕ) → PlainAsked t run a posts → plainOf t run a posts word ≡ transitionOf t run a posts word
   unfolding transitionOf stepOf actedOf
   reached-plain a word q =
       let few : actionCount t ≤ actionRoom = fitting t run (q .step .fits) .0 .counts .actions in
@@ -123,13 +123,13 @@ module _ (t : List ℕ) (run : ProgramGraphRun) (posts : List ℕ) where
       (left-over _ (ne-eqb a epsilon (λ e. omega (arith, q .action)))
       (passed _ (lt-ltb _ _ (q .action)) (passed _ (eq-eqb _ _ (q .plain)) refl)))))
 
-  reached-send : (a word : ℕ) → MessageAsked t run a posts
+  pub reached-send : (a word : ℕ) → MessageAsked t run a posts
       → unless (readyStill t run a posts) (refusedSend 8 run) (unless (isKind t a sendKind) (refusedSend 14 run) (saidOf t run a posts word))
       ≡ sendOf t run a posts word
   unfolding sendOf sentOf
   reached-send a word q = passed _ (q .fits) (passed _ (ap not (ne-eqb a epsilon (q .named))) (passed _ (eq-eqb _ _ (q .one-each)) refl))
 
-  reached-receive : (a : ℕ) (m : Message) → MessageAsked t run a posts
+  pub reached-receive : (a : ℕ) (m : Message) → MessageAsked t run a posts
       → unless (readyStill t run a posts) (refusedReceive 8 run) (unless (isKind t a receiveKind) (refusedReceive 15 run) (heardOf t run a posts m))
       ≡ receiveOf t run a posts m
   unfolding receiveOf receivedOf

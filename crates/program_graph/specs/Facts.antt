@@ -1,16 +1,22 @@
 -- What the theorems on a run speak of.
 use Prim.Native.Nat.{ℕ, _+_, _<_}
 use mathlib.Core.Path.{_≡_}
-use mathlib.Core.Bool.{true}
+use mathlib.Core.Bool.{true, false}
+use mathlib.Core.Logic.{_⊎_}
 use mathlib.Core.List.{List}
 use lib.ListN.{length, getD}
-use Rattle.time.specs.Time.{inRange}
+use Rattle.time.specs.Time.{inRange, lowerMet, upperMet}
+use Rattle.grammar.specs.Evaluation.{evaluationOf}
+use Rattle.grammar.specs.declared.values.Val.{Val}
 use Rattle.grammar.specs.declared.values.Slot.{Slot}
+use Rattle.grammar.specs.declared.evaluation.Evaluated.{Evaluated}
+use Rattle.grammar.specs.declared.evaluation.Evaluated.the-variants.{Known}
 use Rattle.graph_tables.specs.Sizes.{processRoom, variableRoom, clockRoom, plainKind}
 use Rattle.graph_tables.specs.Answers.{doneNumber}
 use Rattle.graph_tables.specs.declared.answers.Done.{Done}
-use Rattle.graph_tables.specs.Words.{locationCount, actionCount, transitionCount, invariantCount, actionKind, keyOf, limitCount, preOf, actionOf, postOf, invariantGroup, clockOf, limitRange, epsilon}
-use Rattle.graph_steps.specs.Steps.{guardHolds}
+use Rattle.graph_tables.specs.Words.{locationCount, actionCount, transitionCount, invariantCount, actionKind, effectCount, effectItems, keyOf, limitCount, preOf, actionOf, postOf, invariantGroup, clockOf, limitRange, epsilon}
+use Rattle.graph_steps.specs.Steps.{guardHolds, effectsBelow}
+use Rattle.graph_steps.specs.Passing.{Has}
 use Rattle.program_graph.specs.Running.{fitsTable}
 use Rattle.program_graph.specs.declared.record.ProgramGraphRun.{ProgramGraphRun}
 
@@ -80,3 +86,38 @@ pub record MessageAsked (t : List ℕ) (run : ProgramGraphRun) (a : ℕ) (posts 
   pub fits : fitsTable t run ≡ true
   pub named : a ≡ epsilon → ⊥
   pub one-each : length posts ≡ run .processes
+
+-- ---- effects
+-- an evaluation has a value
+abbrev pub Valued : Evaluated → Type 0
+Valued e = (x : Val) × (e ≡ Known x)
+
+-- each effect of plain action a has a value in its turn: on the variables that the effects before it left, and on what they left of the word
+abbrev pub EffectsValued : List ℕ → ℕ → List Slot → ℕ → Type 0
+EffectsValued t a vars word =
+    (e : ℕ) → e < effectCount t a
+    → Valued
+    (evaluationOf (effectsBelow t a (record { vars = vars; word = word; fits = true }) e .vars)
+    (effectsBelow t a (record { vars = vars; word = word; fits = true }) e .word) (effectItems t a e) .value)
+
+-- ---- waiting
+-- among the n limits of group g some lower bound is not met yet, and no upper bound is passed
+pub record Due (t : List ℕ) (g n : ℕ) (clocks : List ℕ) : Type 0 where
+  pub limit : ℕ
+  pub within : limit < n
+  pub unmet : lowerMet (limitRange t g limit .lower) (getD clocks (clockOf t g limit) 0) ≡ false
+  pub not-passed : (i : ℕ) → i < n → upperMet (limitRange t g i .upper) (getD clocks (clockOf t g i) 0) ≡ true
+
+-- some transition will be open later
+pub record Awaited (t clocks places : List ℕ) (n : ℕ) : Type 0 where
+  pub process : ℕ
+  pub transition : ℕ
+  pub here : process < n
+  pub known : transition < transitionCount t
+  -- it leaves the location of the process
+  pub from : preOf (keyOf t transition) ≡ getD places process 0
+  -- among its limits, or among the invariants of its post-location, a bound is to be met
+  pub coming : Due t transition (limitCount t transition) clocks
+      ⊎ Due t (invariantGroup (postOf (keyOf t transition))) (invariantCount t (postOf (keyOf t transition))) clocks
+  -- every process's location has its action
+  pub shared : (q : ℕ) → q < n → Has t (getD places q 0) (actionOf (keyOf t transition))

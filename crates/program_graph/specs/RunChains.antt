@@ -1,6 +1,7 @@
 -- Calls on a run one after the other, whatever they answer, and the time since a clock was reset.
 use Prim.Native.Nat.{ℕ, _+_}
-use mathlib.Core.Bool.{Bool, not, cond}
+use mathlib.Core.Path.{_≡_}
+use mathlib.Core.Bool.{Bool, true, false, not, cond}
 use mathlib.Core.List.{List, [], _∷_}
 use lib.Dec.{eqb}
 use Rattle.laws.specs.Below.{_and_, anyBelow}
@@ -62,3 +63,28 @@ timeOn t c (receive a posts m) x = x
 abbrev pub sinceReset : List ℕ → ℕ → ProgramGraphRun → List RunCall → ℕ → ℕ
 sinceReset t c run [] x = x
 sinceReset t c run (call ∷ calls) x = sinceReset t c (runAfter t run call) calls (cond (isAccepted (answerTo t run call)) (timeOn t c call x) x)
+
+-- ---- the same in two parts: the last accepted reset, and the accepted waits behind it
+-- the time that a call takes
+abbrev pub deltaOf : RunCall → ℕ
+deltaOf (transition a posts word) = 0
+deltaOf (wait delta) = delta
+deltaOf (send a posts word) = 0
+deltaOf (receive a posts m) = 0
+
+-- the sum of the accepted waits of a chain
+abbrev pub acceptedWaits : List ℕ → ProgramGraphRun → List RunCall → ℕ
+acceptedWaits t run [] = 0
+acceptedWaits t run (call ∷ calls) = cond (isAccepted (answerTo t run call)) (deltaOf call) 0 + acceptedWaits t (runAfter t run call) calls
+
+-- a call would reset clock c
+abbrev pub resetBy : List ℕ → ℕ → RunCall → Bool
+resetBy t c (transition a posts word) = resetsClock t a c
+resetBy t c (wait delta) = false
+resetBy t c (send a posts word) = false
+resetBy t c (receive a posts m) = false
+
+-- no accepted call of a chain resets clock c
+abbrev pub NoReset : List ℕ → ℕ → ProgramGraphRun → List RunCall → Type 0
+NoReset t c run [] = Unit {0}
+NoReset t c run (call ∷ calls) = (isAccepted (answerTo t run call) ≡ true → resetBy t c call ≡ false) × NoReset t c (runAfter t run call) calls
