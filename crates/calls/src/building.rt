@@ -7,7 +7,7 @@ use graph_tables::ids::Action;
 use graph_tables::ids::Clock;
 use graph_tables::ids::Location;
 use graph_tables::ids::Var;
-use program_graph::builder;
+use graph_builder;
 use text::items;
 use text::items::Expression;
 use text::numbers;
@@ -24,7 +24,7 @@ fn var(line: &[u8], at: usize, t: &mut [u64], out: &mut [u8]) -> usize {
     if !tokens::ended(line, tokens::next(line, at)) {
         return text::answers::bad(out);
     }
-    answers::placed(out, builder::new_var(t, v))
+    answers::placed(out, graph_builder::new_var(t, v))
 }
 
 // g process L
@@ -35,7 +35,7 @@ fn process(line: &[u8], at: usize, t: &mut [u64], out: &mut [u8]) -> usize {
     if !tokens::ended(line, tokens::next(line, at)) {
         return text::answers::bad(out);
     }
-    answers::done(out, builder::new_process(t, Location(l)))
+    answers::done(out, graph_builder::new_process(t, Location(l)))
 }
 
 // g kind V
@@ -46,7 +46,7 @@ fn kind(line: &[u8], at: usize, t: &[u64], out: &mut [u8]) -> usize {
     if !tokens::ended(line, tokens::next(line, at)) {
         return text::answers::bad(out);
     }
-    answers::var_type(out, builder::var_type(t, Var(v)))
+    answers::var_type(out, graph_builder::var_type(t, Var(v)))
 }
 
 // g reset A C
@@ -61,7 +61,7 @@ fn reset(line: &[u8], at: usize, t: &mut [u64], out: &mut [u8]) -> usize {
     if !tokens::ended(line, tokens::next(line, second)) {
         return text::answers::bad(out);
     }
-    answers::done(out, builder::add_reset(t, Action(a), Clock(c)))
+    answers::done(out, graph_builder::add_reset(t, Action(a), Clock(c)))
 }
 
 // EXPR, of the effect of an action on a variable
@@ -74,7 +74,7 @@ fn effect_of(line: &[u8], at: usize, t: &mut [u64], a: u32, v: u32, out: &mut [u
         return text::answers::bad(out);
     }
     let effect = items::part(&words, count);
-    answers::done(out, builder::add_effect(t, Action(a), Var(v), effect))
+    answers::done(out, graph_builder::add_effect(t, Action(a), Var(v), effect))
 }
 
 // g effect A V EXPR
@@ -92,39 +92,39 @@ fn effect(line: &[u8], at: usize, t: &mut [u64], out: &mut [u8]) -> usize {
 // g location, g location LIMITS
 fn location(line: &[u8], at: usize, t: &mut [u64], out: &mut [u8]) -> usize {
     if tokens::ended(line, at) {
-        return answers::placed(out, builder::new_location(t));
+        return answers::placed(out, graph_builder::new_location(t));
     }
     let read = lists::read_last_limits(line, at);
     if !read.whole {
         return text::answers::bad(out);
     }
     let limits = read.limits;
-    answers::placed(out, builder::new_timed_location(t, limits))
+    answers::placed(out, graph_builder::new_timed_location(t, limits))
 }
 
 // g initial, g initial LIMITS
 fn initial(line: &[u8], at: usize, t: &mut [u64], out: &mut [u8]) -> usize {
     if tokens::ended(line, at) {
-        return answers::placed(out, builder::new_initial_location(t));
+        return answers::placed(out, graph_builder::new_initial_location(t));
     }
     let read = lists::read_last_limits(line, at);
     if !read.whole {
         return text::answers::bad(out);
     }
     let limits = read.limits;
-    answers::placed(out, builder::new_initial_timed_location(t, limits))
+    answers::placed(out, graph_builder::new_initial_timed_location(t, limits))
 }
 
 // Lines of two tokens.
 fn bare(verb: &[u8], t: &mut [u64], out: &mut [u8]) -> usize {
     if tokens::is(verb, b"clock") {
-        return answers::placed(out, builder::new_clock(t));
+        return answers::placed(out, graph_builder::new_clock(t));
     }
     if tokens::is(verb, b"action") {
-        return answers::placed(out, builder::new_action(t));
+        return answers::placed(out, graph_builder::new_action(t));
     }
     if tokens::is(verb, b"build") {
-        return answers::done(out, builder::build(t));
+        return answers::done(out, graph_builder::build(t));
     }
     text::answers::bad(out)
 }

@@ -6,7 +6,7 @@ use crate::running;
 use crate::running::Answered;
 use crate::table;
 use libc::STDOUT_FILENO;
-use program_graph::builder;
+use graph_builder;
 use program_graph::inner::fresh;
 use program_graph::record::ProgramGraphRun;
 use text::lines;
@@ -34,7 +34,7 @@ fn on_graph(
         return running::bad(run, out);
     }
     Answered {
-        length: answers::done(out, builder::new(t)),
+        length: answers::done(out, graph_builder::new(t)),
         run: fresh::no_run(),
     }
 }

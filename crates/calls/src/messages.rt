@@ -4,7 +4,7 @@ use crate::lists;
 use graph_tables::answers::Placed;
 use graph_tables::handed::Vars;
 use graph_tables::ids::Var;
-use program_graph::builder;
+use graph_builder;
 use text::items;
 use text::items::Expression;
 use text::lists::Numbers;
@@ -81,7 +81,7 @@ fn new_send(t: &mut [u64], words: &[u64], read: Sizes) -> Placed {
     let x = nth(words, 1, sizes[1]);
     let y = nth(words, 2, sizes[2]);
     let z = nth(words, 3, sizes[3]);
-    builder::new_send(t, read.count, w, x, y, z)
+    graph_builder::new_send(t, read.count, w, x, y, z)
 }
 
 // g send EXPR..
@@ -116,5 +116,5 @@ pub fn receive(line: &[u8], at: usize, t: &mut [u64], out: &mut [u8]) -> usize {
     if VARIABLES < read.count {
         return text::answers::bad(out);
     }
-    answers::placed(out, builder::new_receive(t, vars(read)))
+    answers::placed(out, graph_builder::new_receive(t, vars(read)))
 }

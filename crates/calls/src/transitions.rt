@@ -4,7 +4,7 @@ use crate::lists;
 use crate::lists::Guard;
 use graph_tables::ids::Action;
 use graph_tables::ids::Location;
-use program_graph::builder;
+use graph_builder;
 use text::items;
 use text::numbers;
 use text::numbers::Small;
@@ -66,7 +66,7 @@ pub fn transition(line: &[u8], at: usize, t: &mut [u64], out: &mut [u8]) -> usiz
     let from = Location(pre);
     let to = Location(post);
     if tokens::ended(line, last) {
-        let d = builder::add_transition(t, from, Action(action), to, guarded, guard);
+        let d = graph_builder::add_transition(t, from, Action(action), to, guarded, guard);
         return answers::done(out, d);
     }
     let read = lists::read_last_limits(line, last);
@@ -74,7 +74,7 @@ pub fn transition(line: &[u8], at: usize, t: &mut [u64], out: &mut [u8]) -> usiz
         return text::answers::bad(out);
     }
     let limits = read.limits;
-    let d = builder::add_timed_transition(t, from, Action(action), to, guarded, guard, limits);
+    let d = graph_builder::add_timed_transition(t, from, Action(action), to, guarded, guard, limits);
     answers::done(out, d)
 }
 
@@ -118,7 +118,7 @@ pub fn auto(line: &[u8], at: usize, t: &mut [u64], out: &mut [u8]) -> usize {
     let from = Location(pre);
     let to = Location(post);
     if tokens::ended(line, last) {
-        let d = builder::add_autonomous_transition(t, from, to, guarded, guard);
+        let d = graph_builder::add_autonomous_transition(t, from, to, guarded, guard);
         return answers::done(out, d);
     }
     let read = lists::read_last_limits(line, last);
@@ -126,6 +126,6 @@ pub fn auto(line: &[u8], at: usize, t: &mut [u64], out: &mut [u8]) -> usize {
         return text::answers::bad(out);
     }
     let limits = read.limits;
-    let d = builder::add_autonomous_timed_transition(t, from, to, guarded, guard, limits);
+    let d = graph_builder::add_autonomous_timed_transition(t, from, to, guarded, guard, limits);
     answers::done(out, d)
 }

@@ -1,6 +1,3 @@
-pub mod BuildingLaws
-pub mod FormedCalls
-pub mod Stored
 pub mod AnswerLaws
 pub mod SaidLaws
 pub mod RunLaws
@@ -12,7 +9,5 @@ pub mod RunTheorems
 pub mod RunKept
 pub mod RunChains
 pub mod ClockTheorems
-pub mod KeptCalls
-pub mod Theorems
 pub mod MarkedLaws
 pub mod RunListed

@@ -16,7 +16,7 @@ use Rattle.graph_tables.specs.Formed.{wellFormed, countsFormed, startedOf, part
 use Rattle.graph_edits.specs.Edits.{withLimit, withLimits, withExpression, withRow, withGroup, withGuard, transitionAt}
 use Rattle.graph_checks.specs.Checks.{_then_, varCheck, clockCheck, actionCheck, clockKnown, clocksKnown, startsInside, allStartInside, limitsCheck, locationCheck, startCheck, initialCheck, plainCheck, roomForReset, resetCheck, roomForEffect, assignedCheck, actionEffectCheck, knownEffectCheck, effectCheck, endsCheck, guardRoom, conditionsCheck, transitionCheck}
 use Rattle.graph_steps.specs.Steps.{limitHolds, limitsHold, invariantsHold, guardHolds, passesOf, candidateOf, leadsOf, processReady, readyOf, resetBelow, effectsBelow, placedBelow, postKnown, clockFits, shiftedBelow, placeHolds}
-use Rattle.program_graph.specs.Building.{emptyOf, newVarOf, newClockOf, newActionOf, newInitialOf, newTimedLocationOf, addResetOf, addEffectOf, addTransitionOf}
+use Rattle.graph_builder.specs.Building.{emptyOf, newVarOf, newClockOf, newActionOf, newInitialOf, newTimedLocationOf, addResetOf, addEffectOf, addTransitionOf}
 use Rattle.program_graph.specs.Running.{placeKnown, varFits, countsSame, runFormed, fitsTable, plainOf, actedOf, stepOf, transitionOf, waitedOf, waitOf, startPlaces, startVars, newRunOf, valueIn}
 use Rattle.program_graph.specs.Marked.{both, graph-examples, examples}
 

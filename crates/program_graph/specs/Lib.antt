@@ -1,5 +1,3 @@
-pub mod Building
-pub mod Chains
 pub mod Running
 pub mod Messaging
 pub mod Transitions

@@ -17,8 +17,8 @@ use Rattle.grammar.specs.declared.items.Item.the-variants.{Constant, Variable, 
 use Rattle.graph_tables.specs.Handed.{blankLimit, noLimits}
 use Rattle.graph_tables.specs.declared.handed.Limits.{Limits}
 use Rattle.graph_tables.specs.Answers.{doneNumber}
-use Rattle.program_graph.specs.Building.{emptyOf}
-use Rattle.program_graph.specs.Chains.{Call, new-var, new-clock, new-action, add-reset, add-effect, new-timed-location, new-initial-location, add-transition, afterAll}
+use Rattle.graph_builder.specs.Building.{emptyOf}
+use Rattle.graph_builder.specs.Chains.{Call, new-var, new-clock, new-action, add-reset, add-effect, new-timed-location, new-initial-location, add-transition, afterAll}
 use Rattle.program_graph.specs.Running.{newRunOf, transitionOf, waitOf, valueIn}
 use Rattle.program_graph.specs.declared.answers.Value.{Value}
 use Rattle.program_graph.specs.declared.answers.Value.the-variants.{Is}

@@ -1,6 +1,5 @@
-// One program graph: building it on a lent table, and running it.
+// Running one program graph on a lent table.
 pub mod answers;
-pub mod builder;
 pub mod inner;
 pub mod record;
 pub mod run;

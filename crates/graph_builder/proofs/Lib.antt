@@ -1,0 +1,5 @@
+pub mod BuildingLaws
+pub mod FormedCalls
+pub mod Stored
+pub mod KeptCalls
+pub mod Theorems
