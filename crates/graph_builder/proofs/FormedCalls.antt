@@ -1,5 +1,5 @@
 -- Each building call leaves a well-formed table well formed: the parts of the theorem.
-use Prim.Native.Nat.{ℕ, _+_, _*_, _/_, _<_, _≤_}
+use Prim.Native.Nat.{ℕ, _<_, _≤_}
 use mathlib.Core.Path.{_≡_, refl}
 use mathlib.Core.Bool.{Bool, true, false, cond, _||_}
 use mathlib.Core.List.{List}
@@ -10,16 +10,19 @@ use lib.ListN.{length}
 use Rattle.laws.specs.Below.{_and_}
 use Rattle.laws.proofs.BelowLaws.{and-both}
 use Rattle.grammar.specs.Values.{kindOf, kindWord}
+use Rattle.grammar.specs.Slots.{FitVal}
+use Rattle.grammar.proofs.BitLaws.{bits-small}
 use Rattle.grammar.specs.declared.values.Val.{Val}
 use Rattle.grammar.specs.declared.values.Val.the-variants.{Boolean, Integer}
 use Rattle.graph_tables.specs.Layout.{postSpan}
 use Rattle.graph_tables.specs.Sizes.{actionRoom, itemRoom, word32}
 use Rattle.graph_tables.specs.declared.handed.Limits.{Limits}
 use Rattle.graph_tables.specs.declared.handed.Vars.{Vars}
-use Rattle.graph_tables.specs.Words.{locationCount, actionCount, preOf, actionOf, postOf, epsilon, keyWith}
+use Rattle.graph_tables.specs.Words.{locationCount, actionCount, epsilon, keyWith}
 use Rattle.graph_tables.specs.Formed.{wellFormed, actionKnown, keyFormed}
 use Rattle.graph_tables.proofs.KeptLaws.{Formed, apart, together}
 use Rattle.graph_edits.specs.Edits.{LimitsFit}
+use Rattle.graph_edits.proofs.KeyLaws.{key-pre, key-action, key-post}
 use Rattle.graph_edits.proofs.PartsFormed.{var-formed, clock-formed, process-formed}
 use Rattle.graph_edits.proofs.ResetFormed.{reset-formed}
 use Rattle.graph_edits.proofs.LocationFormed.{location-formed, initial-formed}
@@ -52,10 +55,17 @@ val-formed (Boolean false) h = refl
 val-formed (Boolean true) h = refl
 val-formed (Integer n) h = and-both refl (lt-ltb _ _ h)
 
+payload-small : (v : Val) → FitVal v → payloadOf v < word32
+unfolding FitVal
+payload-small (Boolean false) f = omega arith
+payload-small (Boolean true) f = omega arith
+payload-small (Integer n) f = bits-small n f
+
 module _ (t : List ℕ) (h : WellFormed t) where
-  pub var-stays : (v : Val) → payloadOf v < word32 → WellFormed (newVarOf t v .table)
+  pub var-stays : (v : Val) → FitVal v → WellFormed (newVarOf t v .table)
   unfolding newVarOf
-  var-stays v fit = placed-stays (varCheck t) t _ _ h (λ e. var-formed t _ _ (apart t true h) (var-ready t e .1) (val-formed v fit))
+  var-stays v fit =
+      placed-stays (varCheck t) t _ _ h (λ e. var-formed t _ _ (apart t true h) (var-ready t e .1) (val-formed v (payload-small v fit)))
 
   pub clock-stays : WellFormed (newClockOf t .table)
   unfolding newClockOf
@@ -115,7 +125,7 @@ module _ (t : List ℕ) (h : WellFormed t) where
       initial-formed t l (apart t true h) (r .location .room) (r .location .limits .0) (r .location .limits .1) fit (r .room) (r .inside))
 
 -- ---- transitions: a key has its parts
-known-small : (t : List ℕ) (a : ℕ) → actionCount t ≤ actionRoom → actionKnown t a ≡ true → a < word32
+pub known-small : (t : List ℕ) (a : ℕ) → actionCount t ≤ actionRoom → actionKnown t a ≡ true → a < word32
 unfolding actionKnown
 known-small t a few h = by (eqb a epsilon) refl h
   where
@@ -123,27 +133,14 @@ known-small t a few h = by (eqb a epsilon) refl h
     by true e k = omega (arith, eqb-true a epsilon e)
     by false e k = omega (arith, ltb-true a (actionCount t) k)
 
-module _ (pre a post : ℕ) (p : pre < postSpan) (q : a < word32) (r : post < postSpan) where
-  key-pre : preOf (keyWith pre a post) ≡ pre
-  key-pre = omega arith
-
-  key-action : actionOf (keyWith pre a post) ≡ a
-  key-action =
-      let e : keyWith pre a post / postSpan ≡ pre * word32 + a = omega arith in
-      rw e (omega arith)
-
-  key-post : postOf (keyWith pre a post) ≡ post
-  key-post = omega arith
-
 key-formed : (t : List ℕ) (pre a post : ℕ) → Formed t → pre < locationCount t → post < locationCount t → actionKnown t a ≡ true → keyFormed t (keyWith pre a post) ≡ true
 unfolding keyFormed
 key-formed t pre a post f from to by =
     let small : a < word32 = known-small t a (f .counts .actions) by in
     let m = f .counts .locations in
-    let p : pre < postSpan = omega arith in
     let r : post < postSpan = omega arith in
-    and-both (rw (key-pre pre a post p small r) (lt-ltb _ _ from))
-    (and-both (rw (key-post pre a post p small r) (lt-ltb _ _ to)) (rw (key-action pre a post p small r) by))
+    and-both (rw (key-pre pre a post small r) (lt-ltb _ _ from))
+    (and-both (rw (key-post pre a post small r) (lt-ltb _ _ to)) (rw (key-action pre a post small r) by))
 
 pub guard-fits : (t : List ℕ) (guarded : Bool) (ws : List ℕ) → (guarded ≡ true → GuardReady t ws) → (length (guardOf guarded ws) ≤ itemRoom) × GuardFits t (guardOf guarded ws)
 guard-fits t true ws g = let r = g refl in (r .short, λ some. (r .typed, r .no-draws))

@@ -1,5 +1,5 @@
 pub mod BuildingLaws
 pub mod FormedCalls
-pub mod Stored
-pub mod KeptCalls
+pub mod ReadingLaws
+pub mod KnownChecks
 pub mod Theorems

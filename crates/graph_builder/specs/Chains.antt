@@ -1,14 +1,14 @@
 -- Building calls one after the other, whatever they answer.
-use Prim.Native.Nat.{ℕ, _<_}
+use Prim.Native.Nat.{ℕ}
 use mathlib.Core.Bool.{Bool}
 use mathlib.Core.List.{List, [], _∷_}
+use Rattle.grammar.specs.Slots.{FitVal}
 use Rattle.grammar.specs.declared.values.Val.{Val}
-use Rattle.graph_tables.specs.Sizes.{word32}
 use Rattle.graph_tables.specs.declared.handed.Limits.{Limits}
 use Rattle.graph_tables.specs.declared.handed.Vars.{Vars}
+use Rattle.graph_tables.specs.Answers.{doneNumber, placedNumber}
 use Rattle.graph_edits.specs.Edits.{LimitsFit}
-use Rattle.graph_edits.specs.Lists.{Grows, nothing, resets-of, effects-of, all-transitions}
-use Rattle.graph_builder.specs.Building.{payloadOf, newVarOf, newClockOf, newActionOf, newProcessOf, addResetOf, addEffectOf, newSendOf, newReceiveOf, newTimedLocationOf, newInitialOf, addTransitionOf}
+use Rattle.graph_builder.specs.Building.{newVarOf, newClockOf, newActionOf, newProcessOf, addResetOf, addEffectOf, newSendOf, newReceiveOf, newTimedLocationOf, newInitialOf, addTransitionOf}
 
 -- a call, with what is handed to it
 pub data Call : Type 0 where
@@ -38,23 +38,23 @@ after t (new-timed-location l) = newTimedLocationOf t l .table
 after t (new-initial-location l) = newInitialOf t l .table
 after t (add-transition pre a post guarded ws l) = addTransitionOf t pre a post guarded ws l .table
 
--- what a call may add to of what was there; all else is kept, whatever it answers
-abbrev pub grows : Call → Grows
-grows (new-var v) = nothing
-grows new-clock = nothing
-grows new-action = nothing
-grows (new-process l) = nothing
-grows (add-reset a clock) = resets-of a
-grows (add-effect a v ws) = effects-of a
-grows (new-send m count) = nothing
-grows (new-receive v) = nothing
-grows (new-timed-location l) = nothing
-grows (new-initial-location l) = nothing
-grows (add-transition pre a post guarded ws l) = all-transitions
+-- the number of its answer: 0 for ok, else the refusal's
+abbrev pub answerOf : List ℕ → Call → ℕ
+answerOf t (new-var v) = placedNumber (newVarOf t v .answer)
+answerOf t new-clock = placedNumber (newClockOf t .answer)
+answerOf t new-action = placedNumber (newActionOf t .answer)
+answerOf t (new-process l) = doneNumber (newProcessOf t l .answer)
+answerOf t (add-reset a clock) = doneNumber (addResetOf t a clock .answer)
+answerOf t (add-effect a v ws) = doneNumber (addEffectOf t a v ws .answer)
+answerOf t (new-send m count) = placedNumber (newSendOf t m count .answer)
+answerOf t (new-receive v) = placedNumber (newReceiveOf t v .answer)
+answerOf t (new-timed-location l) = placedNumber (newTimedLocationOf t l .answer)
+answerOf t (new-initial-location l) = placedNumber (newInitialOf t l .answer)
+answerOf t (add-transition pre a post guarded ws l) = doneNumber (addTransitionOf t pre a post guarded ws l .answer)
 
 -- handed integers and times have 32 bits
 abbrev pub Fits : Call → Type 0
-Fits (new-var v) = payloadOf v < word32
+Fits (new-var v) = FitVal v
 Fits new-clock = Unit {0}
 Fits new-action = Unit {0}
 Fits (new-process l) = Unit {0}

@@ -12,5 +12,7 @@ pub mod ExpressionLaws
 pub mod ActionLaws
 pub mod EffectFormed
 pub mod ActionFormed
+pub mod KeyLaws
 pub mod ListLaws
 pub mod PartsKept
+pub mod EditsRead

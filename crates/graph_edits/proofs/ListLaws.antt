@@ -1,26 +1,28 @@
 -- The parts of a table as lists after an edit: what is put in stands in its order, and all else is as it was.
 use Prim.Native.Nat.{ℕ, zero, suc, _+_, _*_, _<_, _≤_}
 use mathlib.Core.Path.{_≡_, refl, sym, ap, subst, _∙_}
-use mathlib.Core.Bool.{true}
+use mathlib.Core.Logic.{_≢_}
+use mathlib.Core.Bool.{Bool, true, false, cond}
 use mathlib.Core.List.{List, [], _∷_, _++_}
 use native.Mathlib.Numerals.{add-one}
 use native.Mathlib.Nat.{add-zero}
 use native.Mathlib.Omega.{arith}
 use borrow.Author.Tests.{lt-ltb, le-ltb}
-use lib.ListN.{length, getD, set}
+use lib.ListN.{length, getD}
 use Rattle.graph_tables.specs.Layout.{actionsCell, transitionsCell, limitsStart, effectsStart, transitionWidth, limitWidth, groupWidth, varCell, lengthCell, transitionRow, groupStart, limitRow, lowerCell, upperCell, guardSlot, effectSlot}
 use Rattle.graph_tables.specs.Sizes.{locationRoom, actionRoom, transitionRoom, limitRoom, groupRoom, effectRoom, resetRoom, messageRoom, itemRoom, sendKind, receiveKind}
 use Rattle.graph_tables.specs.declared.handed.Limits.{Limits}
 use Rattle.graph_tables.specs.declared.handed.Vars.{Vars}
 use Rattle.graph_tables.specs.Handed.{handedClock, handedRange, handedVar}
-use Rattle.graph_tables.specs.Words.{Words, locationCount, actionCount, transitionCount, resetCount, effectCount, resetAt, effectVar, effectLength, effectItems, keyOf, guardLength, limitCount, invariantGroup, boundWord}
+use Rattle.graph_tables.specs.Words.{Words, locationCount, actionCount, transitionCount, resetCount, effectCount, resetAt, effectVar, effectLength, effectItems, keyOf, guardLength, limitCount, preOf, actionOf, postOf, invariantGroup, boundWord}
 use Rattle.graph_tables.specs.Sound.{TransitionSound}
 use Rattle.graph_tables.proofs.SoundLaws.{sound}
 use Rattle.graph_tables.proofs.KeptLaws.{Formed, together, Moved, GroupMoved, items-moved, clock-moved, lower-moved, upper-moved}
 use Rattle.graph_edits.specs.Rows.{placeOf, gapOf}
 use Rattle.graph_edits.specs.Edits.{limitPlace, actionPut, withLimits, withLocation, withReset, withEffect, withExpressions, withSend, withTargets, withReceive, withRow, withGroup, transitionPlace, withTransition}
-use Rattle.graph_edits.specs.Lists.{listOf, insertSorted, StoredLimit, limitAt, limitsOf, invariantsOf, handedLimit, sortedLimits, resetsOf, effectAt, effectsOf, expressionsOf, targetsOf, StoredTransition, transitionOf, transitionsOf}
-use Rattle.graph_edits.proofs.PlaceLaws.{place-bound, place-above, place-below}
+use Rattle.graph_edits.specs.Lists.{listOf, insertSorted, changedAt, StoredLimit, limitAt, limitsOf, invariantsOf, handedLimit, sortedLimits, resetsOf, effectAt, effectsOf, expressionsOf, targetsOf, StoredTransition, keyIn, transitionOf, transitionsOf}
+use Rattle.graph_edits.proofs.PlaceLaws.{place-bound, place-above, place-below, place-same}
+use Rattle.graph_edits.proofs.KeyLaws.{key-back}
 use Rattle.graph_edits.proofs.LimitLaws.{Put, bound-back, next}
 use Rattle.graph_edits.proofs.ResetFormed.{before as reset-before, count as reset-count, here as reset-here, above as reset-above}
 use Rattle.graph_edits.proofs.EffectFormed.{row as effect-row, items as effect-other, all-words as effect-words, count as effect-count, variable as effect-var, same-items as effect-items}
@@ -45,6 +47,32 @@ module _ {A : Type 0} where
       by : (f h : ℕ → A) (n : ℕ) → ((i : ℕ) → i < n → h i ≡ f i) → h n ≡ x → listOf h (suc n) ≡ listOf f n ++ (x ∷ [])
       by f h zero e here = rw here
       by f h (suc n) e here = rw (e zero (omega arith), by (λ (i : ℕ). f (suc i)) (λ (i : ℕ). h (suc i)) n (λ i l. e (suc i) (omega arith)) here)
+
+  -- a row more at the end, or none more
+  pub list-grown : (f h : ℕ → A) (n m : ℕ) (more : Bool) → m ≡ cond more (n + 1) n → ((i : ℕ) → i < n → h i ≡ f i)
+      → listOf h m ≡ cond more (listOf f n ++ (h n ∷ [])) (listOf f n)
+  list-grown f h n m true count e = ap (listOf h) count ∙ list-more f h n (h n) e refl
+  list-grown f h n m false count e = ap (listOf h) count ∙ list-same f h n e
+
+  -- row a alone is another one
+  pub list-changed : (f h : ℕ → A) (n a : ℕ) (g : A → A) → a < n → ((i : ℕ) → i < n → i ≢ a → h i ≡ f i) → h a ≡ g (f a)
+      → listOf h n ≡ changedAt a g (listOf f n)
+  unfolding listOf changedAt
+  list-changed f h zero a g l e here = absurd (omega arith)
+  list-changed f h (suc n) zero g l e here =
+      rw (here, list-same (λ (i : ℕ). f (suc i)) (λ (i : ℕ). h (suc i)) n (λ i m. e (suc i) (omega arith) (omega arith)))
+  list-changed f h (suc n) (suc a) g l e here =
+      rw (
+        e zero (omega arith) (omega arith),
+        list-changed (λ (i : ℕ). f (suc i)) (λ (i : ℕ). h (suc i)) n a g (omega arith)
+            (λ i m other. e (suc i) (omega arith) (omega arith)) here,
+      )
+
+  -- so many rows
+  pub list-length : (f : ℕ → A) (n : ℕ) → length (listOf f n) ≡ n
+  unfolding listOf
+  list-length f zero = refl
+  list-length f (suc n) = ap suc (list-length (λ (i : ℕ). f (suc i)) n)
 
   -- a row more before place p, where the numbers before p are at most its own and the one at p is greater
   put-list : (number : A → ℕ) (f h : ℕ → A) (n p : ℕ) (x : A) → p ≤ n → (p < n → number x < number (f p)) → ((i : ℕ) → i < p → number (f i) ≤ number x)
@@ -217,13 +245,16 @@ transition-same t u k m f words known room row group items =
 
 module _ (t : List ℕ) (key : ℕ) (ws : List ℕ) (l : Limits) (f : Formed t) (room : transitionCount t < transitionRoom) (short : length ws ≤ itemRoom) (few : l .count ≤ limitRoom) where
   abbrev newTransition : StoredTransition
-  newTransition = record { key = key; guard = ws; limits = sortedLimits l (l .count) }
+  newTransition = record { pre = preOf key; action = actionOf key; post = postOf key; guard = ws; limits = sortedLimits l (l .count) }
 
-  pub transitions-list : transitionsOf (withTransition t key ws l) ≡ insertSorted (λ (x : StoredTransition). x .key) newTransition (transitionsOf t)
+  pub transitions-list : transitionsOf (withTransition t key ws l) ≡ insertSorted keyIn newTransition (transitionsOf t)
   unfolding withGroup
   transitions-list =
       ap (listOf (transitionOf u)) (put-count t p n key ws l f refl least room few short)
-      ∙ inserted-list (λ (x : StoredTransition). x .key) (transitionOf t) (transitionOf u) n newTransition before here behind
+      ∙ inserted-list keyIn (transitionOf t) (transitionOf u) n newTransition
+      (λ k h. before k (omega (arith, place)))
+      (ap (transitionOf u) place ∙ here)
+      (λ k h m. behind k (omega (arith, place)) m)
     where
       n : ℕ
       n = transitionCount t
@@ -236,6 +267,10 @@ module _ (t : List ℕ) (key : ℕ) (ws : List ℕ) (l : Limits) (f : Formed t) 
 
       least : p ≤ n
       least = place-bound (keyOf t) n key
+
+      -- the place among the transitions is that among their keys
+      place : placeOf (λ (k : ℕ). keyIn (transitionOf t k)) n (keyIn newTransition) ≡ p
+      place = rw (key-back key) (place-same (λ (k : ℕ). keyIn (transitionOf t k)) (keyOf t) n key (λ k m. key-back (keyOf t k)))
 
       words : Words u
       words = put-words t p n key ws l f refl least room few short

@@ -1,15 +1,17 @@
 -- The parts of a table as lists, in the order in which they are stored.
-use Prim.Native.Nat.{ℕ, zero, suc, _+_, _≤_, _<_}
+use Prim.Native.Nat.{ℕ, zero, suc, _<_}
 use mathlib.Core.Path.{_≡_}
-use mathlib.Core.Logic.{_≢_}
+use mathlib.Core.Logic.{_⊎_}
 use mathlib.Core.Bool.{cond}
 use mathlib.Core.List.{List, [], _∷_}
-use lib.Dec.{ltb}
+use lib.Dec.{eqb, ltb}
 use Rattle.time.specs.declared.TimeRange.{TimeRange}
-use Rattle.graph_tables.specs.Sizes.{plainKind, sendKind, receiveKind}
+use Rattle.grammar.specs.Slots.{valOf}
+use Rattle.grammar.specs.declared.values.Val.{Val}
+use Rattle.graph_tables.specs.Sizes.{plainKind, sendKind}
 use Rattle.graph_tables.specs.declared.handed.Limits.{Limits}
 use Rattle.graph_tables.specs.Handed.{handedClock, handedRange}
-use Rattle.graph_tables.specs.Words.{variableCount, clockCount, locationCount, actionCount, processCount, transitionCount, kindAt, valueAt, placeAt, invariantCount, actionKind, resetCount, effectCount, resetAt, effectVar, keyOf, limitCount, clockOf, limitRange, guardItems, effectItems, invariantGroup}
+use Rattle.graph_tables.specs.Words.{variableCount, locationCount, actionCount, processCount, transitionCount, kindAt, valueAt, placeAt, invariantCount, actionKind, resetCount, effectCount, resetAt, effectVar, keyOf, limitCount, preOf, actionOf, postOf, keyWith, clockOf, limitRange, guardItems, effectItems, invariantGroup}
 
 -- f of every number below n, in order
 unfoldable pub listOf : {A : Type 0} → (ℕ → A) → ℕ → List A
@@ -20,6 +22,26 @@ listOf f (suc n) = f zero ∷ listOf (λ (i : ℕ). f (suc i)) n
 unfoldable pub insertSorted : {A : Type 0} → (A → ℕ) → A → List A → List A
 insertSorted number x [] = x ∷ []
 insertSorted number x (y ∷ ys) = cond (ltb (number x) (number y)) (x ∷ (y ∷ ys)) (y ∷ insertSorted number x ys)
+
+-- f of the entry of number i, and all others as they are
+unfoldable pub changedAt : {A : Type 0} → ℕ → (A → A) → List A → List A
+changedAt i f [] = []
+changedAt zero f (x ∷ xs) = f x ∷ xs
+changedAt (suc i) f (x ∷ xs) = x ∷ changedAt i f xs
+
+-- ---- variables
+-- the value of variable v at the start, by its kind
+abbrev pub variableAt : List ℕ → ℕ → Val
+variableAt t v = valOf (kindAt t v) (valueAt t v)
+
+-- all variables
+abbrev pub variablesOf : List ℕ → List Val
+variablesOf t = listOf (variableAt t) (variableCount t)
+
+-- ---- processes
+-- the location where each starts
+abbrev pub placesOf : List ℕ → List ℕ
+placesOf t = listOf (placeAt t) (processCount t)
 
 -- ---- limits
 -- a clock, and the times at which it may stand
@@ -38,6 +60,10 @@ limitsOf t g n = listOf (limitAt t g) n
 -- the invariants of location l
 abbrev pub invariantsOf : List ℕ → ℕ → List StoredLimit
 invariantsOf t l = limitsOf t (invariantGroup l) (invariantCount t l)
+
+-- all locations: the invariants of each
+abbrev pub locationsOf : List ℕ → List (List StoredLimit)
+locationsOf t = listOf (invariantsOf t) (locationCount t)
 
 -- limit i of those that are handed
 abbrev pub handedLimit : Limits → ℕ → StoredLimit
@@ -74,49 +100,50 @@ expressionsOf t a = listOf (effectItems t a) (effectCount t a)
 abbrev pub targetsOf : List ℕ → ℕ → List ℕ
 targetsOf t a = listOf (effectVar t a) (effectCount t a)
 
+-- a plain action has resets and effects, a send the expressions of its message, a receive the variables that take its values
+pub data StoredAction : Type 0 where
+  plain : List ℕ → List StoredEffect → StoredAction
+  send : List (List ℕ) → StoredAction
+  receive : List ℕ → StoredAction
+
+-- action a, by its kind
+unfoldable pub actionAt : List ℕ → ℕ → StoredAction
+actionAt t a =
+    cond (eqb (actionKind t a) plainKind) (plain (resetsOf t a) (effectsOf t a))
+    (cond (eqb (actionKind t a) sendKind) (send (expressionsOf t a))
+    (receive (targetsOf t a)))
+
+-- all actions
+abbrev pub actionsOf : List ℕ → List StoredAction
+actionsOf t = listOf (actionAt t) (actionCount t)
+
 -- ---- transitions
--- a key, the items of the guard, and the limits
+-- from a location, by an action, to a location; the items of the guard, none where there is no guard; the limits
 pub record StoredTransition : Type 0 where
-  pub key : ℕ
+  pub pre : ℕ
+  pub action : ℕ
+  pub post : ℕ
   pub guard : List ℕ
   pub limits : List StoredLimit
 
+-- the number that orders them
+abbrev pub keyIn : StoredTransition → ℕ
+keyIn x = keyWith (x .pre) (x .action) (x .post)
+
+-- it orders them by pre-location, then by action, then by post-location
+abbrev pub Before : ℕ → ℕ → ℕ → ℕ → ℕ → ℕ → Type 0
+Before pre a post from by to = (pre < from) ⊎ ((pre ≡ from) × ((a < by) ⊎ ((a ≡ by) × (post < to))))
+
 -- transition k
 abbrev pub transitionOf : List ℕ → ℕ → StoredTransition
-transitionOf t k = record { key = keyOf t k; guard = guardItems t k; limits = limitsOf t k (limitCount t k) }
+transitionOf t k = record {
+  pre = preOf (keyOf t k);
+  action = actionOf (keyOf t k);
+  post = postOf (keyOf t k);
+  guard = guardItems t k;
+  limits = limitsOf t k (limitCount t k);
+}
 
 -- all transitions
 abbrev pub transitionsOf : List ℕ → List StoredTransition
 transitionsOf t = listOf (transitionOf t) (transitionCount t)
-
--- ---- what stays
--- what an edit adds to, of what was there: nothing, the resets of an action, its effects, or the transitions
-pub data Grows : Type 0 where
-  nothing : Grows
-  resets-of : ℕ → Grows
-  effects-of : ℕ → Grows
-  all-transitions : Grows
-
--- action a of t has the same effects in u, or the same message
-pub record EffectsKept (t u : List ℕ) (a : ℕ) : Type 0 where
-  pub plain : actionKind t a ≡ plainKind → effectsOf u a ≡ effectsOf t a
-  pub send : actionKind t a ≡ sendKind → expressionsOf u a ≡ expressionsOf t a
-  pub receive : actionKind t a ≡ receiveKind → targetsOf u a ≡ targetsOf t a
-
--- every part of t is in u, under its number, but for what is added to
-pub record Kept (more : Grows) (t u : List ℕ) : Type 0 where
-  -- no count is less
-  pub counts : (variableCount t ≤ variableCount u) × (clockCount t ≤ clockCount u) × (locationCount t ≤ locationCount u) × (actionCount t ≤ actionCount u) × (processCount t ≤ processCount u) × (transitionCount t ≤ transitionCount u)
-  -- variables
-  pub kinds : (v : ℕ) → v < variableCount t → kindAt u v ≡ kindAt t v
-  pub values : (v : ℕ) → v < variableCount t → valueAt u v ≡ valueAt t v
-  -- locations
-  pub invariants : (l : ℕ) → l < locationCount t → invariantsOf u l ≡ invariantsOf t l
-  -- processes
-  pub places : (p : ℕ) → p < processCount t → placeAt u p ≡ placeAt t p
-  -- actions
-  pub actions : (a : ℕ) → a < actionCount t → actionKind u a ≡ actionKind t a
-  pub resets : (a : ℕ) → a < actionCount t → more ≢ resets-of a → resetsOf u a ≡ resetsOf t a
-  pub effects : (a : ℕ) → a < actionCount t → more ≢ effects-of a → EffectsKept t u a
-  -- transitions
-  pub transitions : more ≢ all-transitions → transitionsOf u ≡ transitionsOf t
