@@ -53,6 +53,7 @@ module _ (kinds : List ℕ) (vars others : List Slot) (same : (v : ℕ) → v < 
     all-same [] = inl (λ left. refl)
     all-same (w ∷ ws) = one-more w ws (same-step (itemOf w)) (all-same ws)
 
-  pub evaluation-agree : (ws : List ℕ) (k : Kind) (word : ℕ) → typeOf kinds ws ≡ Typed.Known k → evaluationOf vars word ws ≡ evaluationOf others word ws
+  pub evaluation-agree : (ws : List ℕ) (k : Kind) (word : ℕ) → typeOf kinds ws ≡ Typed.Known k
+      → evaluationOf vars word ws ≡ evaluationOf others word ws
   unfolding evaluationOf valueOf
   evaluation-agree ws k word e = ⊎-elim (λ s. rw (s word)) (λ h. absurd (never-ill kinds ws k e h)) (all-same (deepest ws 0) ws)

@@ -22,7 +22,8 @@ module _ (ws : List ℕ) (at : ℕ) where
   draws-done h = ap drawsOf (done ws at h)
 
   -- what an item leaves and then the items after it
-  pub left-next : (left : ℕ) → at < length ws → left / 2 ^ drawsIn (itemOf (getD ws at 0)) / 2 ^ drawsOf (drop (at + 1) ws) ≡ left / 2 ^ drawsOf (drop at ws)
+  pub left-next : (left : ℕ) → at < length ws
+      → left / 2 ^ drawsIn (itemOf (getD ws at 0)) / 2 ^ drawsOf (drop (at + 1) ws) ≡ left / 2 ^ drawsOf (drop at ws)
   left-next left h =
       div-div-eq-div-mul left (2 ^ drawsIn (itemOf (getD ws at 0))) (2 ^ drawsOf (drop (at + 1) ws))
       ∙ ap (λ (n : ℕ). left / n) (sym (pow-add 2 (drawsIn (itemOf (getD ws at 0))) (drawsOf (drop (at + 1) ws))))

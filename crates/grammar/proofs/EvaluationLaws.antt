@@ -35,6 +35,7 @@ module _ (vars : List Slot) (word : ℕ) (ws : List ℕ) where
   value-given h e = passed NoValue h (ap resultOf (sym e))
 
   -- the value and the rest together
-  pub evaluated : {v : Evaluated} {r : ℕ} → v ≡ valueOf vars word ws → r ≡ word / 2 ^ drawsOf ws → _≡_ {A = Evaluation} (record { value = v; rest = r }) (evaluationOf vars word ws)
+  pub evaluated : {v : Evaluated} {r : ℕ} → v ≡ valueOf vars word ws → r ≡ word / 2 ^ drawsOf ws
+      → _≡_ {A = Evaluation} (record { value = v; rest = r }) (evaluationOf vars word ws)
   unfolding evaluationOf
   evaluated e f = rw (e, f)

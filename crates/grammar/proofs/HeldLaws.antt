@@ -56,10 +56,12 @@ module _ (r : Read) (x y : ℕ) where
   on : {v e f : Evaluated} → v ≡ binaryOn r e f → heldOf x ≡ e → heldOf y ≡ f → v ≡ binaryOn r (heldOf x) (heldOf y)
   on k p q = k ∙ rw (p, q)
 
-  pub both-integers : x < 4294967296 → y < 4294967296 → valuesOn r (Integer (wholeOf x)) (Integer (wholeOf y)) ≡ binaryOn r (heldOf x) (heldOf y)
+  pub both-integers : x < 4294967296 → y < 4294967296
+      → valuesOn r (Integer (wholeOf x)) (Integer (wholeOf y)) ≡ binaryOn r (heldOf x) (heldOf y)
   both-integers h k = on (both-known r _ _) (held-integer x h) (held-integer y k)
 
-  pub both-booleans : 4294967296 ≤ x → x ≤ 4294967297 → 4294967296 ≤ y → y ≤ 4294967297 → valuesOn r (Boolean (eqb x 4294967297)) (Boolean (eqb y 4294967297)) ≡ binaryOn r (heldOf x) (heldOf y)
+  pub both-booleans : 4294967296 ≤ x → x ≤ 4294967297 → 4294967296 ≤ y → y ≤ 4294967297
+      → valuesOn r (Boolean (eqb x 4294967297)) (Boolean (eqb y 4294967297)) ≡ binaryOn r (heldOf x) (heldOf y)
   both-booleans h k l m = on (both-known r _ _) (held-boolean x h k) (held-boolean y l m)
 
   pub none-first : 4294967297 < x → NoValue ≡ binaryOn r (heldOf x) (heldOf y)

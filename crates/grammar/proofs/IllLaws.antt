@@ -16,7 +16,8 @@ use Rattle.grammar.specs.declared.values.«Type».the-variants.{Boolean,
 use Rattle.grammar.specs.declared.items.Unary.{Unary}
 use Rattle.grammar.specs.declared.items.Unary.the-variants.{Not, Negate}
 use Rattle.grammar.specs.declared.items.Binary.{Binary}
-use Rattle.grammar.specs.declared.items.Binary.the-variants.{And, Or, Add, Subtract, Multiply, Divide, Remainder, Equal, Less, LessOrEqual}
+use Rattle.grammar.specs.declared.items.Binary.the-variants.{And, Or, Add, Subtract, Multiply, Divide, Remainder, Equal, Less}
+use Rattle.grammar.specs.declared.items.Binary.the-variants.{LessOrEqual}
 use Rattle.grammar.specs.declared.items.Item.the-variants as Item
 use Rattle.grammar.specs.declared.typing.Typed.the-variants.{Known, IllTyped, TableFull}
 
@@ -60,7 +61,8 @@ still : (k : Kinded) (waiting : List Kinded) → HasIll waiting → HasIll (k �
 still (of k) waiting h = h
 still ill waiting h = tt
 
-module _ (deep : ℕ) (steps : List (Step Kinded)) (rest : (waiting : List Kinded) → HasIll waiting → judged (runOf steps waiting) deep ≡ IllTyped) where
+module _ (deep : ℕ) (steps : List (Step Kinded))
+    (rest : (waiting : List Kinded) → HasIll waiting → judged (runOf steps waiting) deep ≡ IllTyped) where
   one : (i : Step Kinded) → Strict i → (waiting : List Kinded) → HasIll waiting → judged (runOf (i ∷ steps) waiting) deep ≡ IllTyped
   unfolding runOf
   one (push k) s waiting h = rest (k ∷ waiting) (still k waiting h)
@@ -75,13 +77,15 @@ module _ (deep : ℕ) (steps : List (Step Kinded)) (rest : (waiting : List Kinde
   one (join f) s (ill ∷ of a ∷ waiting) h = rw (s .1 a) (rest (ill ∷ waiting) tt)
   one (join f) s (ill ∷ ill ∷ waiting) h = rw (s .0 ill) (rest (ill ∷ waiting) tt)
 
-stays : (deep : ℕ) (kinds ws : List ℕ) (waiting : List Kinded) → HasIll waiting → judged (runOf (kindSteps kinds ws) waiting) deep ≡ IllTyped
+stays : (deep : ℕ) (kinds ws : List ℕ) (waiting : List Kinded) → HasIll waiting
+    → judged (runOf (kindSteps kinds ws) waiting) deep ≡ IllTyped
 unfolding runOf kindSteps
 stays deep kinds [] [] h = absurd h
 stays deep kinds [] (of k ∷ []) h = absurd h
 stays deep kinds [] (ill ∷ []) h = refl
 stays deep kinds [] (a ∷ b ∷ waiting) h = refl
-stays deep kinds (w ∷ ws) waiting h = one deep (kindSteps kinds ws) (stays deep kinds ws) (kindStep kinds (itemOf w)) (strict kinds (itemOf w)) waiting h
+stays deep kinds (w ∷ ws) waiting h =
+    one deep (kindSteps kinds ws) (stays deep kinds ws) (kindStep kinds (itemOf w)) (strict kinds (itemOf w)) waiting h
 
 -- as the code has it: the number of the last operand is no kind
 pub kinded-back : (k : Kinded) → kindedAt (kindedWord k) ≡ k
@@ -89,7 +93,8 @@ kinded-back (of Boolean) = refl
 kinded-back (of Integer) = refl
 kinded-back ill = refl
 
-pub ill-typed : (deep : ℕ) (kinds ws : List ℕ) (k : Kinded) (waiting : List Kinded) → 1 < kindedWord k → judged (runOf (kindSteps kinds ws) (k ∷ waiting)) deep ≡ IllTyped
+pub ill-typed : (deep : ℕ) (kinds ws : List ℕ) (k : Kinded) (waiting : List Kinded) → 1 < kindedWord k
+    → judged (runOf (kindSteps kinds ws) (k ∷ waiting)) deep ≡ IllTyped
 ill-typed deep kinds ws (of Boolean) waiting h = absurd (omega arith)
 ill-typed deep kinds ws (of Integer) waiting h = absurd (omega arith)
 ill-typed deep kinds ws ill waiting h = stays deep kinds ws (ill ∷ waiting) tt

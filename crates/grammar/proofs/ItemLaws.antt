@@ -23,7 +23,8 @@ unfolding itemOf
 high w h = ap (λ (t : Bool). cond t (getD operations w none) (operandOf (w % 256) (w / 256))) (le-ltb w 14 h)
 
 -- a fact of the words below n, of which all are below 14
-pub low-any : (n : ℕ) → n ≤ 14 → (P : ℕ → Read → Type 0) → Each (λ (w : ℕ). P w (getD operations w none)) n → (w : ℕ) → w < n → P w (itemOf w)
+pub low-any : (n : ℕ) → n ≤ 14 → (P : ℕ → Read → Type 0) → Each (λ (w : ℕ). P w (getD operations w none)) n → (w : ℕ) → w < n
+    → P w (itemOf w)
 low-any n l P ops w h = subst (P w) (sym (low w (omega arith))) (upto (λ (k : ℕ). P k (getD operations k none)) n ops w h)
 
 either : (P : Read → Type 0) (t : Bool) {a b : Read} → P a → P b → P (cond t a b)
@@ -38,7 +39,8 @@ operand-any P c op p v z =
     (either P (eqb op 16) v z))
 
 -- what holds of the operations and of the operands holds of every word's item
-pub word-any : (P : ℕ → Read → Type 0) → Each (λ (w : ℕ). P w (getD operations w none)) 14 → ((w : ℕ) (v : Val) → P w (constant v)) → ((w n : ℕ) → P w (item (Item.Variable n))) → ((w : ℕ) → P w none) → (w : ℕ) → P w (itemOf w)
+pub word-any : (P : ℕ → Read → Type 0) → Each (λ (w : ℕ). P w (getD operations w none)) 14 → ((w : ℕ) (v : Val) → P w (constant v))
+    → ((w n : ℕ) → P w (item (Item.Variable n))) → ((w : ℕ) → P w none) → (w : ℕ) → P w (itemOf w)
 word-any P ops c v z w = by (decLt w 14)
   where
     by : Dec (w < 14) → P w (itemOf w)
@@ -50,7 +52,13 @@ pub no-draw : (w : ℕ) → (w ≡ 13 → ⊥) → drawsIn (itemOf w) ≡ 0
 no-draw =
     word-any (λ (w : ℕ) (r : Read). (w ≡ 13 → ⊥) → drawsIn r ≡ 0) (
       (λ n. refl),
-      ((λ n. refl), ((λ n. refl), ((λ n. refl), ((λ n. refl), ((λ n. refl), ((λ n. refl), ((λ n. refl), ((λ n. refl), ((λ n. refl), ((λ n. refl), ((λ n. refl), ((λ n. refl), ((λ n. absurd (n refl)), tt))))))))))))),
+      ((λ n. refl),
+      ((λ n. refl),
+      ((λ n. refl),
+      ((λ n. refl),
+      ((λ n. refl),
+      ((λ n. refl),
+      ((λ n. refl), ((λ n. refl), ((λ n. refl), ((λ n. refl), ((λ n. refl), ((λ n. refl), ((λ n. absurd (n refl)), tt))))))))))))),
     )
     (λ w v n. refl) (λ w k n. refl) (λ w n. refl)
 

@@ -31,7 +31,8 @@ getD-any (x ∷ xs) zero a b h = refl
 getD-any (x ∷ xs) (suc i) a b h = getD-any xs i a b (le-of-suc-le-suc h)
 
 -- a word above 13 is an operand or nothing
-pub operand-word : (kinds : List ℕ) (w : ℕ) → 14 ≤ w → operandKind kinds (operandOf (w % 256) (w / 256)) ≡ made (kindStep kinds (itemOf w)) ill ill
+pub operand-word : (kinds : List ℕ) (w : ℕ) → 14 ≤ w
+    → operandKind kinds (operandOf (w % 256) (w / 256)) ≡ made (kindStep kinds (itemOf w)) ill ill
 unfolding operandKind
 operand-word kinds w h =
     operand-any (λ (r : Read). operandKind kinds r ≡ made (kindStep kinds r) ill ill) (λ v. refl) (w % 256) (w / 256) refl refl

@@ -14,8 +14,13 @@ pub mod StepLaws
 pub mod PlaneLaws
 pub mod PassLaws
 pub mod CodeLaws
+pub mod DigitLaws
+pub mod WalkLaws
+pub mod KnownLaws
 pub mod EvaluationLaws
 pub mod TurnLaws
 pub mod SlotLaws
 pub mod Sound
 pub mod Theorems
+pub mod FitLaws
+pub mod Determined

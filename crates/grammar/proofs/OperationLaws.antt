@@ -15,7 +15,8 @@ use Rattle.grammar.specs.Inner.{slotOf, valuesOn, binaryOn, operandOn}
 use Rattle.grammar.specs.declared.values.Val.{Val}
 use Rattle.grammar.specs.declared.values.Val.the-variants.{Boolean, Integer}
 use Rattle.grammar.specs.declared.values.Slot.{Slot}
-use Rattle.grammar.specs.declared.items.Binary.the-variants.{And, Or, Add, Subtract, Multiply, Divide, Remainder, Equal, Less, LessOrEqual}
+use Rattle.grammar.specs.declared.items.Binary.the-variants.{And, Or, Add, Subtract, Multiply, Divide, Remainder, Equal, Less}
+use Rattle.grammar.specs.declared.items.Binary.the-variants.{LessOrEqual}
 use Rattle.grammar.specs.declared.items.Item.the-variants as Item
 use Rattle.grammar.specs.declared.evaluation.Evaluated.{Evaluated}
 use Rattle.grammar.specs.declared.evaluation.Evaluated.the-variants.{Known, NoValue}
@@ -23,12 +24,14 @@ use Rattle.grammar.proofs.ItemLaws.{high, operand-any, word-any, low-an
 
 -- none of 5 to 12: no operation on integers
 pub no-integers : (a b : ℤ) (w : ℕ)
-    → ((((((((Unit {0} × (w ≡ 5 → ⊥)) × (w ≡ 6 → ⊥)) × (w ≡ 7 → ⊥)) × (w ≡ 8 → ⊥)) × (w ≡ 9 → ⊥)) × (w ≡ 10 → ⊥)) × (w ≡ 11 → ⊥)) × (w ≡ 12 → ⊥))
+    → ((((((((Unit {0} × (w ≡ 5 → ⊥)) × (w ≡ 6 → ⊥)) × (w ≡ 7 → ⊥)) × (w ≡ 8 → ⊥)) × (w ≡ 9 → ⊥)) × (w ≡ 10 → ⊥)) × (w ≡ 11 → ⊥))
+    × (w ≡ 12 → ⊥))
     → NoValue ≡ valuesOn (itemOf w) (Integer a) (Integer b)
 unfolding valuesOn
 no-integers a b =
     word-any
-    (λ (w : ℕ) (r : Read). ((((((((Unit {0} × (w ≡ 5 → ⊥)) × (w ≡ 6 → ⊥)) × (w ≡ 7 → ⊥)) × (w ≡ 8 → ⊥)) × (w ≡ 9 → ⊥)) × (w ≡ 10 → ⊥)) × (w ≡ 11 → ⊥)) × (w ≡ 12 → ⊥)) → NoValue ≡ valuesOn r (Integer a) (Integer b)) (
+    (λ (w : ℕ) (r : Read). ((((((((Unit {0} × (w ≡ 5 → ⊥)) × (w ≡ 6 → ⊥)) × (w ≡ 7 → ⊥)) × (w ≡ 8 → ⊥)) × (w ≡ 9 → ⊥)) × (w ≡ 10 → ⊥)) × (w
+    ≡ 11 → ⊥)) × (w ≡ 12 → ⊥)) → NoValue ≡ valuesOn r (Integer a) (Integer b)) (
       (λ n. refl),
       (
         (λ n. refl),
@@ -46,7 +49,8 @@ no-integers a b =
                     (λ n. absurd (n .0 .0 .0 .0 .0 .1 refl)),
                     (
                       (λ n. absurd (n .0 .0 .0 .0 .1 refl)),
-                      ((λ n. absurd (n .0 .0 .0 .1 refl)), ((λ n. absurd (n .0 .0 .1 refl)), ((λ n. absurd (n .0 .1 refl)), ((λ n. absurd (n .1 refl)), ((λ n. refl), tt))))),
+                      ((λ n. absurd (n .0 .0 .0 .1 refl)),
+                      ((λ n. absurd (n .0 .0 .1 refl)), ((λ n. absurd (n .0 .1 refl)), ((λ n. absurd (n .1 refl)), ((λ n. refl), tt))))),
                     ),
                   ),
                 ),
@@ -59,7 +63,8 @@ no-integers a b =
     (λ w v n. refl) (λ w k n. refl) (λ w n. refl)
 
 -- none of 2, 3 and 10: no operation on booleans
-pub no-booleans : (a b : Bool) (w : ℕ) → (((Unit {0} × (w ≡ 2 → ⊥)) × (w ≡ 3 → ⊥)) × (w ≡ 10 → ⊥)) → NoValue ≡ valuesOn (itemOf w) (Boolean a) (Boolean b)
+pub no-booleans : (a b : Bool) (w : ℕ) → (((Unit {0} × (w ≡ 2 → ⊥)) × (w ≡ 3 → ⊥)) × (w ≡ 10 → ⊥))
+    → NoValue ≡ valuesOn (itemOf w) (Boolean a) (Boolean b)
 unfolding valuesOn
 no-booleans a b =
     word-any
@@ -73,7 +78,9 @@ no-booleans a b =
             (λ n. absurd (n .0 .1 refl)),
             (
               (λ n. refl),
-              ((λ n. refl), ((λ n. refl), ((λ n. refl), ((λ n. refl), ((λ n. refl), ((λ n. absurd (n .1 refl)), ((λ n. refl), ((λ n. refl), ((λ n. refl), tt))))))))),
+              ((λ n. refl),
+              ((λ n. refl),
+              ((λ n. refl), ((λ n. refl), ((λ n. refl), ((λ n. absurd (n .1 refl)), ((λ n. refl), ((λ n. refl), ((λ n. refl), tt))))))))),
             ),
           ),
         ),
@@ -147,7 +154,8 @@ both-known (item Item.Draw) a b = refl
 both-known none a b = refl
 
 -- a word below 13 and neither 1 nor 4 is a binary operation or nothing
-pub binary-word : (a b : Evaluated) (w : ℕ) → w < 13 → ((Unit {0} × (w ≡ 1 → ⊥)) × (w ≡ 4 → ⊥)) → binaryOn (itemOf w) a b ≡ made (valueStep [] 0 (itemOf w)) a b
+pub binary-word : (a b : Evaluated) (w : ℕ) → w < 13 → ((Unit {0} × (w ≡ 1 → ⊥)) × (w ≡ 4 → ⊥))
+    → binaryOn (itemOf w) a b ≡ made (valueStep [] 0 (itemOf w)) a b
 unfolding binaryOn
 binary-word a b =
     low-any 13 (lit≤ tt)
@@ -169,31 +177,37 @@ binary-word a b =
     )
 
 -- an operation looks neither at the variables nor at the word
-pub no-variables : (vars : List Slot) (left : ℕ) (a b : Evaluated) (w : ℕ) → w < 13 → made (valueStep [] 0 (itemOf w)) a b ≡ made (valueStep vars left (itemOf w)) a b
+pub no-variables : (vars : List Slot) (left : ℕ) (a b : Evaluated) (w : ℕ) → w < 13
+    → made (valueStep [] 0 (itemOf w)) a b ≡ made (valueStep vars left (itemOf w)) a b
 no-variables vars left a b =
     low-any 13 (lit≤ tt) (λ (w : ℕ) (r : Read). made (valueStep [] 0 r) a b ≡ made (valueStep vars left r) a b)
     (refl, (refl, (refl, (refl, (refl, (refl, (refl, (refl, (refl, (refl, (refl, (refl, (refl, tt)))))))))))))
 
 -- what a constant's or a variable's word adds does not look at the word that is drawn from
-pub no-word : (x : Val) (left w : ℕ) → 14 ≤ w → operandOn x (w / 256) 0 (operandOf (w % 256) (w / 256)) ≡ operandOn x (w / 256) left (itemOf w)
+pub no-word : (x : Val) (left w : ℕ) → 14 ≤ w
+    → operandOn x (w / 256) 0 (operandOf (w % 256) (w / 256)) ≡ operandOn x (w / 256) left (itemOf w)
 unfolding operandOn
 no-word x left w h =
     operand-any (λ (r : Read). operandOn x (w / 256) 0 r ≡ operandOn x (w / 256) left r) (λ v. refl) (w % 256) (w / 256) refl refl
     ∙ ap (operandOn x (w / 256) left) (sym (high w h))
 
 -- what a word from 13 on adds, where x is what its variable holds
-looked-up : (vars : List Slot) (k : ℕ) (t : Bool) → cond t (Known (getD vars (cond t k 0) blank .value)) NoValue ≡ cond t (Known (getD vars k blank .value)) NoValue
+looked-up : (vars : List Slot) (k : ℕ) (t : Bool)
+    → cond t (Known (getD vars (cond t k 0) blank .value)) NoValue ≡ cond t (Known (getD vars k blank .value)) NoValue
 looked-up vars k true = refl
 looked-up vars k false = refl
 
-pub operand-word : (vars : List Slot) (left : ℕ) (a b : Evaluated) (w : ℕ) → 13 ≤ w → operandOn (getD vars (slotOf w) blank .value) (w / 256) left (itemOf w) ≡ made (valueStep vars left (itemOf w)) a b
+pub operand-word : (vars : List Slot) (left : ℕ) (a b : Evaluated) (w : ℕ) → 13 ≤ w
+    → operandOn (getD vars (slotOf w) blank .value) (w / 256) left (itemOf w) ≡ made (valueStep vars left (itemOf w)) a b
 unfolding operandOn itemOf
 operand-word vars left a b w h = by (decLt 13 w)
   where
     by : Dec (13 < w) → operandOn (getD vars (slotOf w) blank .value) (w / 256) left (itemOf w) ≡ made (valueStep vars left (itemOf w)) a b
     by (yes l) =
-        subst (λ (r : Read). operandOn (getD vars (slotOf w) blank .value) (w / 256) left r ≡ made (valueStep vars left r) a b) (sym (high w l))
-        (operand-any (λ (r : Read). operandOn (getD vars (slotOf w) blank .value) (w / 256) left r ≡ made (valueStep vars left r) a b) (λ v. refl) (w % 256) (w / 256) (looked-up vars (w / 256) (ltb (w / 256) 16)) refl)
+        subst (λ (r : Read). operandOn (getD vars (slotOf w) blank .value) (w / 256) left r ≡ made (valueStep vars left r) a b)
+        (sym (high w l))
+        (operand-any (λ (r : Read). operandOn (getD vars (slotOf w) blank .value) (w / 256) left r ≡ made (valueStep vars left r) a b)
+        (λ v. refl) (w % 256) (w / 256) (looked-up vars (w / 256) (ltb (w / 256) 16)) refl)
     by (no l) =
         let e : w ≡ 13 = omega arith in
         rw e

@@ -32,7 +32,16 @@ pub record Pass (items kinds : List ℕ) (depth integers most draws at : ℕ) : 
 
 pub start : (items kinds : List ℕ) → Pass items kinds 0 0 0 0 0
 unfolding planeOf
-start items kinds = record { within = omega arith; shallow = omega arith; reached = omega arith; small = omega arith; same-draws = omega arith; same-run = refl; same-depth = omega (arith, deepest-least items 0) }
+start items kinds =
+    record {
+      within = omega arith;
+      shallow = omega arith;
+      reached = omega arith;
+      small = omega arith;
+      same-draws = omega arith;
+      same-run = refl;
+      same-depth = omega (arith, deepest-least items 0);
+    }
 
 -- the answer of a run
 abbrev answer : List ℕ → List ℕ → Ran Kinded → ℕ
@@ -55,7 +64,8 @@ module _ {items kinds : List ℕ} {depth integers most draws at : ℕ} (p : Pass
   pub gives-kind : length items ≤ at → depth ≡ 1 → codeOf (judged (gives (kindedAt integers)) most) (drawsOf items) ≡ Answer items kinds
   gives-kind h e =
       let d : most ≡ deepest items 0 = omega (arith, p .reached, p .same-depth, deepest-done items at depth h) in
-      ap (λ (n : ℕ). codeOf (judged (gives (kindedAt integers)) n) (drawsOf items)) d ∙ ap (answer items kinds) (sym (ended depth integers e (p .small)) ∙ finished h)
+      ap (λ (n : ℕ). codeOf (judged (gives (kindedAt integers)) n) (drawsOf items)) d
+      ∙ ap (answer items kinds) (sym (ended depth integers e (p .small)) ∙ finished h)
 
   pub last : depth ≡ 1 → integers ≤ 1
   last e = let l : integers < 2 ^ 1 = subst (λ (n : ℕ). integers < 2 ^ n) e (p .small) in omega arith
@@ -74,11 +84,13 @@ module _ {items kinds : List ℕ} {depth integers most draws at : ℕ} (p : Pass
     abbrev after : List (Step Kinded)
     after = kindSteps kinds (drop (at + 1) items)
 
-    step : runOf (kindStep kinds (itemOf (getD items at 0)) ∷ kindSteps kinds (drop (at + 1) items)) (planeOf depth integers) ≡ runOf (kindSteps kinds items) []
+    step : runOf (kindStep kinds (itemOf (getD items at 0)) ∷ kindSteps kinds (drop (at + 1) items)) (planeOf depth integers)
+        ≡ runOf (kindSteps kinds items) []
     step = ap (λ (is : List (Step Kinded)). runOf is (planeOf depth integers)) (sym (kind-next items at kinds h)) ∙ p .same-run
 
     -- an operation
-    pub operation : getD items at 0 < 13 → (r : Waiting) → Left (kindStep [] (itemOf (getD items at 0))) depth integers r → 1 ≤ r .depth → Pass items kinds (r .depth) (r .integers) most draws (at + 1)
+    pub operation : getD items at 0 < 13 → (r : Waiting) → Left (kindStep [] (itemOf (getD items at 0))) depth integers r → 1 ≤ r .depth
+        → Pass items kinds (r .depth) (r .integers) most draws (at + 1)
     operation l r x one =
         let e : r .depth ≡ depth - takesOf (itemOf w) + 1 = x .exact one ∙ ap (λ (n : ℕ). depth - n + 1) (sym (kind-size [] (itemOf w))) in
         record {
@@ -87,19 +99,26 @@ module _ {items kinds : List ℕ} {depth integers most draws at : ℕ} (p : Pass
           reached = omega (arith, p .reached, x .fewer);
           small = x .small;
           same-draws = omega (arith, p .same-draws, draws-next items at h, no-draw w (λ z. omega arith));
-          same-run = x .goes one after ∙ ap (λ (i : Step Kinded). runOf (i ∷ after) (planeOf depth integers)) (no-variables kinds w l) ∙ step;
-          same-depth = ap (λ (n : ℕ). max most (deepest (drop (at + 1) items) n)) e ∙ omega (arith, p .reached, p .same-depth, deepest-next items at depth h);
+          same-run =
+              x .goes one after ∙ ap (λ (i : Step Kinded). runOf (i ∷ after) (planeOf depth integers)) (no-variables kinds w l) ∙ step;
+          same-depth =
+              ap (λ (n : ℕ). max most (deepest (drop (at + 1) items) n)) e
+              ∙ omega (arith, p .reached, p .same-depth, deepest-next items at depth h);
         }
 
-    pub no-operation : getD items at 0 < 13 → (r : Waiting) → Left (kindStep [] (itemOf (getD items at 0))) depth integers r → r .depth ≡ 0 → 4 ≡ Answer items kinds
+    pub no-operation : getD items at 0 < 13 → (r : Waiting) → Left (kindStep [] (itemOf (getD items at 0))) depth integers r → r .depth ≡ 0
+        → 4 ≡ Answer items kinds
     no-operation l r x z =
         ill-answer items (judged (runOf (kindSteps kinds items) []) (deepest items 0))
-        (ap (λ (s : Ran Kinded). judged s (deepest items 0)) (sym step ∙ ap (λ (i : Step Kinded). runOf (i ∷ after) (planeOf depth integers)) (sym (no-variables kinds w l)))
+        (ap (λ (s : Ran Kinded). judged s (deepest items 0))
+        (sym step ∙ ap (λ (i : Step Kinded). runOf (i ∷ after) (planeOf depth integers)) (sym (no-variables kinds w l)))
         ∙ x .fails z (deepest items 0) kinds (drop (at + 1) items))
 
     -- an operand of kind k
-    pub operand : 13 ≤ getD items at 0 → (k bits much more : ℕ) → (x y : Kinded) → kindedAt k ≡ made (kindStep kinds (itemOf (getD items at 0))) x y → bits % 2 ≡ k → bits / 2 ≡ integers → bits ≤ 2 * integers + 1
-        → much ≡ max most (depth + 1) → more ≡ draws + 8 * drawsIn (itemOf (getD items at 0)) → Pass items kinds (depth + 1) bits much more (at + 1)
+    pub operand : 13 ≤ getD items at 0 → (k bits much more : ℕ) → (x y : Kinded)
+        → kindedAt k ≡ made (kindStep kinds (itemOf (getD items at 0))) x y → bits % 2 ≡ k → bits / 2 ≡ integers → bits ≤ 2 * integers + 1
+        → much ≡ max most (depth + 1) → more ≡ draws + 8 * drawsIn (itemOf (getD items at 0))
+        → Pass items kinds (depth + 1) bits much more (at + 1)
     operand l k bits much more x y e b q s m d =
         record {
           within = omega arith;
@@ -107,8 +126,11 @@ module _ {items kinds : List ℕ} {depth integers most draws at : ℕ} (p : Pass
           reached = omega arith;
           small = doubled depth integers bits (p .small) s;
           same-draws = omega (arith, p .same-draws, draws-next items at h);
-          same-run = added (kindStep kinds (itemOf w)) after depth integers bits k (sym (kind-size kinds (itemOf w)) ∙ takes-operand w l) x y e b q ∙ step;
-          same-depth = omega (arith, p .reached, p .same-depth, deepest-least (drop (at + 1) items) (depth + 1), deepest-push items at depth h l);
+          same-run =
+              added (kindStep kinds (itemOf w)) after depth integers bits k (sym (kind-size kinds (itemOf w)) ∙ takes-operand w l) x y e b q
+              ∙ step;
+          same-depth =
+              omega (arith, p .reached, p .same-depth, deepest-least (drop (at + 1) items) (depth + 1), deepest-push items at depth h l);
         }
 
     -- a word that is no operation has a kind as an operand, or none; a draw has none there
@@ -117,22 +139,30 @@ module _ {items kinds : List ℕ} {depth integers most draws at : ℕ} (p : Pass
       unfolding operandKind
       no-kind z = e ∙ ap (λ (n : ℕ). kindedWord (operandKind kinds (operandOf (n % 256) (n / 256)))) z
 
-      pub constant : 13 ≤ getD items at 0 → k < 2 → (much : ℕ) → much ≡ max most (depth + 1) → Pass items kinds (depth + 1) (2 * integers + k) much draws (at + 1)
+      pub constant : 13 ≤ getD items at 0 → k < 2 → (much : ℕ) → much ≡ max most (depth + 1)
+          → Pass items kinds (depth + 1) (2 * integers + k) much draws (at + 1)
       constant l s much m =
           let n : getD items at 0 ≡ 13 → ⊥ = λ z. omega (arith, no-kind z) in
-          operand l k (2 * integers + k) much draws ill ill (ap kindedAt e ∙ kinded-back _ ∙ operand-word kinds w (omega arith)) (omega arith) (omega arith) (omega arith) m (omega (arith, no-draw w n))
+          operand l k (2 * integers + k) much draws ill ill (ap kindedAt e ∙ kinded-back _ ∙ operand-word kinds w (omega arith))
+          (omega arith) (omega arith) (omega arith) m (omega (arith, no-draw w n))
 
       pub no-constant : 14 ≤ getD items at 0 → 2 ≤ k → 4 ≡ Answer items kinds
       no-constant l s =
           ill-answer items (judged (runOf (kindSteps kinds items) []) (deepest items 0))
           (ap (λ (r : Ran Kinded). judged r (deepest items 0)) (sym step ∙ sym pushed)
-          ∙ ill-typed (deepest items 0) kinds (drop (at + 1) items) _ (planeOf depth integers) (omega (arith, e, ap kindedWord (operand-word kinds w l))))
+          ∙ ill-typed (deepest items 0) kinds (drop (at + 1) items) _ (planeOf depth integers)
+          (omega (arith, e, ap kindedWord (operand-word kinds w l))))
         where
-          pushed : runOf after (made (kindStep kinds (itemOf w)) ill ill ∷ planeOf depth integers) ≡ runOf (kindStep kinds (itemOf w) ∷ after) (planeOf depth integers)
-          pushed = taken (kindStep kinds (itemOf w)) after (planeOf depth integers) (sym (kind-size kinds (itemOf w)) ∙ takes-operand w (omega arith))
+          pushed : runOf after (made (kindStep kinds (itemOf w)) ill ill ∷ planeOf depth integers)
+              ≡ runOf (kindStep kinds (itemOf w) ∷ after) (planeOf depth integers)
+          pushed =
+              taken (kindStep kinds (itemOf w)) after (planeOf depth integers)
+              (sym (kind-size kinds (itemOf w)) ∙ takes-operand w (omega arith))
 
-    pub drawn : getD items at 0 ≡ 13 → (much : ℕ) → much ≡ max most (depth + 1) → Pass items kinds (depth + 1) (2 * integers) much (draws + 8) (at + 1)
+    pub drawn : getD items at 0 ≡ 13 → (much : ℕ) → much ≡ max most (depth + 1)
+        → Pass items kinds (depth + 1) (2 * integers) much (draws + 8) (at + 1)
     unfolding itemOf
     drawn e much m =
-        operand (omega arith) 0 (2 * integers) much (draws + 8) ill ill (ap (λ (n : ℕ). made (kindStep kinds (itemOf n)) ill ill) (sym e)) (omega arith) (omega arith) (omega arith) m
+        operand (omega arith) 0 (2 * integers) much (draws + 8) ill ill (ap (λ (n : ℕ). made (kindStep kinds (itemOf n)) ill ill) (sym e))
+        (omega arith) (omega arith) (omega arith) m
         (ap (λ (n : ℕ). draws + 8 * drawsIn (itemOf n)) (sym e))

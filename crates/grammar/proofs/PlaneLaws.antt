@@ -75,7 +75,8 @@ halved n bits h l =
     shr-lt (n - 1) 1 (subst (λ (k : ℕ). bits < 2 ^ k) q l)
 
 -- ---- steps
-joined : (f : Kinded → Kinded → Kinded) (n bits after : ℕ) → 2 ≤ n → f (kindedAt (bits / 2 % 2)) (kindedAt (bits % 2)) ≡ kindedAt (after % 2) → after / 2 ≡ bits / 2 / 2
+joined : (f : Kinded → Kinded → Kinded) (n bits after : ℕ) → 2 ≤ n
+    → f (kindedAt (bits / 2 % 2)) (kindedAt (bits % 2)) ≡ kindedAt (after % 2) → after / 2 ≡ bits / 2 / 2
     → (steps : List (Step Kinded)) → runOf steps (planeOf (n - 1) after) ≡ runOf (join f ∷ steps) (planeOf n bits)
 unfolding runOf planeOf
 joined f zero bits after h e q steps = absurd (omega arith)
@@ -90,16 +91,21 @@ joined f (suc (suc m)) bits after h e q steps =
 abbrev Fails : Step Kinded → ℕ → ℕ → Type 0
 Fails i n bits = (deep : ℕ) (kinds ws : List ℕ) → judged (runOf (i ∷ kindSteps kinds ws) (planeOf n bits)) deep ≡ IllTyped
 
-join-fails : (f : Kinded → Kinded → Kinded) (n bits : ℕ) → (2 ≤ n → f (kindedAt (bits / 2 % 2)) (kindedAt (bits % 2)) ≡ ill) → Fails (join f) n bits
+join-fails : (f : Kinded → Kinded → Kinded) (n bits : ℕ) → (2 ≤ n → f (kindedAt (bits / 2 % 2)) (kindedAt (bits % 2)) ≡ ill)
+    → Fails (join f) n bits
 unfolding runOf planeOf
 join-fails f zero bits e deep kinds ws = refl
 join-fails f (suc zero) bits e deep kinds ws = refl
-join-fails f (suc (suc m)) bits e deep kinds ws = ap (λ (k : Kinded). judged (runOf (kindSteps kinds ws) (k ∷ planeOf m (bits / 2 / 2))) deep) (e (omega arith)) ∙ ill-typed deep kinds ws ill (planeOf m (bits / 2 / 2)) (lit< tt)
+join-fails f (suc (suc m)) bits e deep kinds ws =
+    ap (λ (k : Kinded). judged (runOf (kindSteps kinds ws) (k ∷ planeOf m (bits / 2 / 2))) deep) (e (omega arith))
+    ∙ ill-typed deep kinds ws ill (planeOf m (bits / 2 / 2)) (lit< tt)
 
 change-fails : (f : Kinded → Kinded) (n bits : ℕ) → f (kindedAt (bits % 2)) ≡ ill → Fails (change f) n bits
 unfolding runOf planeOf
 change-fails f zero bits e deep kinds ws = refl
-change-fails f (suc m) bits e deep kinds ws = ap (λ (k : Kinded). judged (runOf (kindSteps kinds ws) (k ∷ planeOf m (bits / 2))) deep) e ∙ ill-typed deep kinds ws ill (planeOf m (bits / 2)) (lit< tt)
+change-fails f (suc m) bits e deep kinds ws =
+    ap (λ (k : Kinded). judged (runOf (kindSteps kinds ws) (k ∷ planeOf m (bits / 2))) deep) e
+    ∙ ill-typed deep kinds ws ill (planeOf m (bits / 2)) (lit< tt)
 
 push-fails : (n bits : ℕ) → Fails (push ill) n bits
 unfolding runOf
@@ -118,10 +124,12 @@ module _ {i : Step Kinded} {n bits : ℕ} where
       }
 
 module _ {f : Kinded → Kinded → Kinded} {n bits : ℕ} where
-  pub none-joined : (r : Waiting) → (r .depth ≡ 0) × (r .integers ≡ 0) → (2 ≤ n → f (kindedAt (bits / 2 % 2)) (kindedAt (bits % 2)) ≡ ill) → Left (join f) n bits r
+  pub none-joined : (r : Waiting) → (r .depth ≡ 0) × (r .integers ≡ 0) → (2 ≤ n → f (kindedAt (bits / 2 % 2)) (kindedAt (bits % 2)) ≡ ill)
+      → Left (join f) n bits r
   none-joined r e z = left-none r e (join-fails f n bits z)
 
-  left-joined : (after : ℕ) → bits < 2 ^ n → 2 ≤ n → after ≤ bits / 2 → f (kindedAt (bits / 2 % 2)) (kindedAt (bits % 2)) ≡ kindedAt (after % 2) → after / 2 ≡ bits / 2 / 2
+  left-joined : (after : ℕ) → bits < 2 ^ n → 2 ≤ n → after ≤ bits / 2
+      → f (kindedAt (bits / 2 % 2)) (kindedAt (bits % 2)) ≡ kindedAt (after % 2) → after / 2 ≡ bits / 2 / 2
       → Left (join f) n bits (record { depth = n - 1; integers = after })
   left-joined after s h l e q =
       record {
@@ -134,21 +142,24 @@ module _ {f : Kinded → Kinded → Kinded} {n bits : ℕ} where
 
 -- two integers whose result has the word k as its kind, and two booleans that give one
 module _ (f : Kinded → Kinded → Kinded) (n bits : ℕ) (s : bits < 2 ^ n) where
-  pub both-integers : (k after : ℕ) → bits % 4 ≡ 3 → f (of Integer) (of Integer) ≡ kindedAt k → after % 2 ≡ k → after / 2 ≡ bits / 2 / 2 → after ≤ bits / 2
+  pub both-integers : (k after : ℕ) → bits % 4 ≡ 3 → f (of Integer) (of Integer) ≡ kindedAt k → after % 2 ≡ k → after / 2 ≡ bits / 2 / 2
+      → after ≤ bits / 2
       → Left (join f) n bits (record { depth = n - 1; integers = after })
   both-integers k after e g r q l =
       let a : bits / 2 % 2 ≡ 1 = omega arith in
       let b : bits % 2 ≡ 1 = omega arith in
       left-joined after s (two-wait n bits (omega arith) s) l (rw (a, b, r) g) q
 
-  pub both-booleans : 2 ≤ n → bits % 4 ≡ 0 → f (of Boolean) (of Boolean) ≡ of Boolean → Left (join f) n bits (record { depth = n - 1; integers = bits / 2 })
+  pub both-booleans : 2 ≤ n → bits % 4 ≡ 0 → f (of Boolean) (of Boolean) ≡ of Boolean
+      → Left (join f) n bits (record { depth = n - 1; integers = bits / 2 })
   both-booleans h e g =
       let a : bits / 2 % 2 ≡ 0 = omega arith in
       let b : bits % 2 ≡ 0 = omega arith in
       left-joined (bits / 2) s h (omega arith) (rw (a, b) g) refl
 
 module _ (f : Kinded → Kinded) (bits : ℕ) where
-  goes-changed : (n : ℕ) → 1 ≤ n → f (kindedAt (bits % 2)) ≡ kindedAt (bits % 2) → (steps : List (Step Kinded)) → runOf steps (planeOf n bits) ≡ runOf (change f ∷ steps) (planeOf n bits)
+  goes-changed : (n : ℕ) → 1 ≤ n → f (kindedAt (bits % 2)) ≡ kindedAt (bits % 2) → (steps : List (Step Kinded))
+      → runOf steps (planeOf n bits) ≡ runOf (change f ∷ steps) (planeOf n bits)
   unfolding runOf planeOf
   goes-changed zero h e steps = absurd (omega arith)
   goes-changed (suc m) h e steps = ap (λ (k : Kinded). runOf steps (k ∷ planeOf m (bits / 2))) (sym e)
@@ -162,7 +173,8 @@ module _ {f : Kinded → Kinded} {n bits : ℕ} where
   pub none-changed : (r : Waiting) → (r .depth ≡ 0) × (r .integers ≡ 0) → f (kindedAt (bits % 2)) ≡ ill → Left (change f) n bits r
   none-changed r e z = left-none r e (change-fails f n bits z)
 
-  pub left-changed : bits < 2 ^ n → f (kindedAt (bits % 2)) ≡ kindedAt (bits % 2) → Left (change f) n bits (record { depth = n; integers = bits })
+  pub left-changed : bits < 2 ^ n → f (kindedAt (bits % 2)) ≡ kindedAt (bits % 2)
+      → Left (change f) n bits (record { depth = n; integers = bits })
   left-changed s e =
       record {
         small = s;
@@ -180,13 +192,25 @@ none-left n bits w r e z = rw z (left-none r e (push-fails n bits))
 pub arithmetic : (w : ℕ) → 5 ≤ w → w < 10 → kindStep [] (itemOf w) ≡ join (takes2 Integer Integer)
 arithmetic w h l =
     low-any 10 (lit≤ tt) (λ (w : ℕ) (r : Read). 5 ≤ w → kindStep [] r ≡ join (takes2 Integer Integer))
-    ((λ h. absurd (omega arith)), ((λ h. absurd (omega arith)), ((λ h. absurd (omega arith)), ((λ h. absurd (omega arith)), ((λ h. absurd (omega arith)), ((λ h. refl), ((λ h. refl), ((λ h. refl), ((λ h. refl), ((λ h. refl), tt))))))))))
+    ((λ h. absurd (omega arith)),
+    ((λ h. absurd (omega arith)),
+    ((λ h. absurd (omega arith)),
+    ((λ h. absurd (omega arith)),
+    ((λ h. absurd (omega arith)), ((λ h. refl), ((λ h. refl), ((λ h. refl), ((λ h. refl), ((λ h. refl), tt))))))))))
     w l h
 
 pub order : (w : ℕ) → 11 ≤ w → w < 13 → kindStep [] (itemOf w) ≡ join (takes2 Integer Boolean)
 order w h l =
     low-any 13 (lit≤ tt) (λ (w : ℕ) (r : Read). 11 ≤ w → kindStep [] r ≡ join (takes2 Integer Boolean))
-    ((λ h. absurd (omega arith)), ((λ h. absurd (omega arith)), ((λ h. absurd (omega arith)), ((λ h. absurd (omega arith)), ((λ h. absurd (omega arith)), ((λ h. absurd (omega arith)), ((λ h. absurd (omega arith)), ((λ h. absurd (omega arith)), ((λ h. absurd (omega arith)), ((λ h. absurd (omega arith)), ((λ h. absurd (omega arith)), ((λ h. refl), ((λ h. refl), tt)))))))))))))
+    ((λ h. absurd (omega arith)),
+    ((λ h. absurd (omega arith)),
+    ((λ h. absurd (omega arith)),
+    ((λ h. absurd (omega arith)),
+    ((λ h. absurd (omega arith)),
+    ((λ h. absurd (omega arith)),
+    ((λ h. absurd (omega arith)),
+    ((λ h. absurd (omega arith)),
+    ((λ h. absurd (omega arith)), ((λ h. absurd (omega arith)), ((λ h. absurd (omega arith)), ((λ h. refl), ((λ h. refl), tt)))))))))))))
     w l h
 
 pub logic : (w : ℕ) → w < 5 → (w ≡ 4 → ⊥) → (w ≡ 1 → ⊥) → (w ≡ 0 → ⊥) → kindStep [] (itemOf w) ≡ join (takes2 Boolean Boolean)
@@ -201,7 +225,8 @@ no-variables kinds =
     (refl, (refl, (refl, (refl, (refl, (refl, (refl, (refl, (refl, (refl, (refl, (refl, (refl, tt)))))))))))))
 
 -- ---- a step that takes none adds its operand
-pub added : (i : Step Kinded) (rest : List (Step Kinded)) (n bits after k : ℕ) → sizeOf i ≡ 0 → (x y : Kinded) → kindedAt k ≡ made i x y → after % 2 ≡ k → after / 2 ≡ bits
+pub added : (i : Step Kinded) (rest : List (Step Kinded)) (n bits after k : ℕ) → sizeOf i ≡ 0 → (x y : Kinded) → kindedAt k ≡ made i x y
+    → after % 2 ≡ k → after / 2 ≡ bits
     → runOf rest (planeOf (n + 1) after) ≡ runOf (i ∷ rest) (planeOf n bits)
 unfolding runOf planeOf
 added (push a) rest n bits after k z x y e r q =
@@ -212,7 +237,8 @@ added (push a) rest n bits after k z x y e r q =
 added (change f) rest n bits after k z x y e r q = absurd (eqb-false 1 0 refl z)
 added (join f) rest n bits after k z x y e r q = absurd (eqb-false 2 0 refl z)
 
-pub taken : (i : Step Kinded) (rest : List (Step Kinded)) (waiting : List Kinded) → sizeOf i ≡ 0 → runOf rest (made i ill ill ∷ waiting) ≡ runOf (i ∷ rest) waiting
+pub taken : (i : Step Kinded) (rest : List (Step Kinded)) (waiting : List Kinded) → sizeOf i ≡ 0
+    → runOf rest (made i ill ill ∷ waiting) ≡ runOf (i ∷ rest) waiting
 unfolding runOf
 taken (push a) rest waiting z = refl
 taken (change f) rest waiting z = absurd (eqb-false 1 0 refl z)

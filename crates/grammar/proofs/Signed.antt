@@ -57,7 +57,9 @@ quotient (negsuc a) (negsuc b) = div-le-self (suc a) (suc b)
 module _ {a b : ℤ} (fa : SFits w32 a) (fb : SFits w32 b) where
   pub product-fits : SFits w64 (a *ℤ b)
   product-fits =
-      record { sfits = lt-of-le-of-lt (product a b) (lt-of-le-of-lt (mul-le-mul (natAbs-le a (fa .sfits)) (natAbs-le b (fb .sfits))) (lit< tt)) }
+      record {
+        sfits = lt-of-le-of-lt (product a b) (lt-of-le-of-lt (mul-le-mul (natAbs-le a (fa .sfits)) (natAbs-le b (fb .sfits))) (lit< tt));
+      }
 
   pub quotient-fits : SFits w64 (quotZ a b)
   quotient-fits = record { sfits = lt-of-le-of-lt (quotient a b) (lt-of-le-of-lt (natAbs-le a (fa .sfits)) (lit< tt)) }

@@ -14,7 +14,8 @@ use Rattle.grammar.specs.declared.values.Slot.{Slot}
 use Rattle.grammar.proofs.BitLaws.{from-bits-of, bits-small}
 
 -- variable n is the value of its two words
-at : (ws : List ℕ) (n i j : ℕ) → i ≡ 2 * n → j ≡ 2 * n + 1 → j < length ws → getD (slotsOf ws) n blank .value ≡ valOf (getD ws i 0) (getD ws j 0)
+at : (ws : List ℕ) (n i j : ℕ) → i ≡ 2 * n → j ≡ 2 * n + 1 → j < length ws
+    → getD (slotsOf ws) n blank .value ≡ valOf (getD ws i 0) (getD ws j 0)
 unfolding slotsOf
 at [] n i j e f h = absurd (omega arith)
 at (k ∷ []) n i j e f h = absurd (omega arith)
@@ -27,10 +28,12 @@ at (k ∷ p ∷ ws) (suc n) i j e f h =
     let b : j ≡ suc (suc (j - 2)) = omega arith in
     rw (a, b) (at ws n (i - 2) (j - 2) (omega arith) (omega arith) (omega arith))
 
-pub slots-at : (ws : List ℕ) (n : ℕ) → 2 * n + 1 < length ws → getD (slotsOf ws) n blank .value ≡ valOf (getD ws (2 * n) 0) (getD ws (2 * n + 1) 0)
+pub slots-at : (ws : List ℕ) (n : ℕ) → 2 * n + 1 < length ws
+    → getD (slotsOf ws) n blank .value ≡ valOf (getD ws (2 * n) 0) (getD ws (2 * n + 1) 0)
 slots-at ws n h = at ws n (2 * n) (2 * n + 1) refl refl h
 
-pub slot-at : (ws : List ℕ) (n : ℕ) → 2 * n + 1 < length ws → getD (slotsOf ws) n blank ≡ record { value = valOf (getD ws (2 * n) 0) (getD ws (2 * n + 1) 0) }
+pub slot-at : (ws : List ℕ) (n : ℕ) → 2 * n + 1 < length ws
+    → getD (slotsOf ws) n blank ≡ record { value = valOf (getD ws (2 * n) 0) (getD ws (2 * n + 1) 0) }
 slot-at ws n h = ap (λ (v : Val). record { value = v }) (slots-at ws n h)
 
 -- half as many
@@ -47,7 +50,8 @@ words-length [] = refl
 words-length (s ∷ ss) = omega (arith, words-length ss)
 
 -- a kind and a payload stored are the value stored
-put : (ws : List ℕ) (n i j k p : ℕ) → i ≡ 2 * n → j ≡ 2 * n + 1 → j < length ws → slotsOf (set (set ws i k) j p) ≡ set (slotsOf ws) n (record { value = valOf k p })
+put : (ws : List ℕ) (n i j k p : ℕ) → i ≡ 2 * n → j ≡ 2 * n + 1 → j < length ws
+    → slotsOf (set (set ws i k) j p) ≡ set (slotsOf ws) n (record { value = valOf k p })
 unfolding slotsOf
 put [] n i j k p e f h = absurd (omega arith)
 put (a ∷ []) n i j k p e f h = absurd (omega arith)
@@ -58,9 +62,11 @@ put (a ∷ b ∷ ws) zero i j k p e f h =
 put (a ∷ b ∷ ws) (suc n) i j k p e f h =
     let x : i ≡ suc (suc (i - 2)) = omega arith in
     let y : j ≡ suc (suc (j - 2)) = omega arith in
-    rw (x, y) (ap (λ (ss : List Slot). record { value = valOf a b } ∷ ss) (put ws n (i - 2) (j - 2) k p (omega arith) (omega arith) (omega arith)))
+    rw (x, y) (ap (λ (ss : List Slot). record { value = valOf a b } ∷ ss)
+    (put ws n (i - 2) (j - 2) k p (omega arith) (omega arith) (omega arith)))
 
-pub slots-set : (ws : List ℕ) (n k p : ℕ) → 2 * n + 1 < length ws → slotsOf (set (set ws (2 * n) k) (2 * n + 1) p) ≡ set (slotsOf ws) n (record { value = valOf k p })
+pub slots-set : (ws : List ℕ) (n k p : ℕ) → 2 * n + 1 < length ws
+    → slotsOf (set (set ws (2 * n) k) (2 * n + 1) p) ≡ set (slotsOf ws) n (record { value = valOf k p })
 slots-set ws n k p h = put ws n (2 * n) (2 * n + 1) k p refl refl h
 
 -- a value that a program holds comes back from its words
@@ -82,8 +88,10 @@ slots-back (s ∷ ss) f =
     ∙ ap (λ (l : List Slot). s ∷ l) (slots-back ss (λ n h. f (suc n) (omega arith)))
 
 -- a value put among the words is the value among the slots
-pub put-slots : (ws : List ℕ) (n : ℕ) (x : Val) → 2 * n + 1 < length ws → FitVal x → slotsOf (set (set ws (2 * n) (kindIn x)) (2 * n + 1) (payloadIn x)) ≡ set (slotsOf ws) n (record { value = x })
-put-slots ws n x h f = slots-set ws n (kindIn x) (payloadIn x) h ∙ ap (λ (y : Val). set (slotsOf ws) n (record { value = y })) (val-back x f)
+pub put-slots : (ws : List ℕ) (n : ℕ) (x : Val) → 2 * n + 1 < length ws → FitVal x
+    → slotsOf (set (set ws (2 * n) (kindIn x)) (2 * n + 1) (payloadIn x)) ≡ set (slotsOf ws) n (record { value = x })
+put-slots ws n x h f =
+    slots-set ws n (kindIn x) (payloadIn x) h ∙ ap (λ (y : Val). set (slotsOf ws) n (record { value = y })) (val-back x f)
 
 -- ---- the words of a list of values
 kind : (ss : List Slot) (n i : ℕ) → i ≡ 2 * n → n < length ss → getD (wordsIn ss) i 0 ≡ kindIn (getD ss n blank .value)
@@ -105,7 +113,8 @@ pub payload-at : (ss : List Slot) (n : ℕ) → n < length ss → getD (wordsIn 
 payload-at ss n h = payload ss n (2 * n + 1) refl h
 
 -- a value among the slots is its two words among the words
-set-words : (ss : List Slot) (n i j : ℕ) (x : Val) → i ≡ 2 * n → j ≡ 2 * n + 1 → n < length ss → wordsIn (set ss n (record { value = x })) ≡ set (set (wordsIn ss) i (kindIn x)) j (payloadIn x)
+set-words : (ss : List Slot) (n i j : ℕ) (x : Val) → i ≡ 2 * n → j ≡ 2 * n + 1 → n < length ss
+    → wordsIn (set ss n (record { value = x })) ≡ set (set (wordsIn ss) i (kindIn x)) j (payloadIn x)
 unfolding wordsIn
 set-words [] n i j x e f h = absurd (omega arith)
 set-words (s ∷ ss) zero i j x e f h =
@@ -115,7 +124,9 @@ set-words (s ∷ ss) zero i j x e f h =
 set-words (s ∷ ss) (suc n) i j x e f h =
     let a : i ≡ suc (suc (i - 2)) = omega arith in
     let b : j ≡ suc (suc (j - 2)) = omega arith in
-    rw (a, b) (ap (λ (l : List ℕ). kindIn (s .value) ∷ payloadIn (s .value) ∷ l) (set-words ss n (i - 2) (j - 2) x (omega arith) (omega arith) (omega arith)))
+    rw (a, b) (ap (λ (l : List ℕ). kindIn (s .value) ∷ payloadIn (s .value) ∷ l)
+    (set-words ss n (i - 2) (j - 2) x (omega arith) (omega arith) (omega arith)))
 
-pub words-set : (ss : List Slot) (n : ℕ) (x : Val) → n < length ss → wordsIn (set ss n (record { value = x })) ≡ set (set (wordsIn ss) (2 * n) (kindIn x)) (2 * n + 1) (payloadIn x)
+pub words-set : (ss : List Slot) (n : ℕ) (x : Val) → n < length ss
+    → wordsIn (set ss n (record { value = x })) ≡ set (set (wordsIn ss) (2 * n) (kindIn x)) (2 * n + 1) (payloadIn x)
 words-set ss n x h = set-words ss n (2 * n) (2 * n + 1) x refl refl h

@@ -19,7 +19,8 @@ use Rattle.grammar.specs.declared.values.Slot.{Slot}
 use Rattle.grammar.specs.declared.items.Unary.{Unary}
 use Rattle.grammar.specs.declared.items.Unary.the-variants.{Not, Negate}
 use Rattle.grammar.specs.declared.items.Binary.{Binary}
-use Rattle.grammar.specs.declared.items.Binary.the-variants.{And, Or, Add, Subtract, Multiply, Divide, Remainder, Equal, Less, LessOrEqual}
+use Rattle.grammar.specs.declared.items.Binary.the-variants.{And, Or, Add, Subtract, Multiply, Divide, Remainder, Equal, Less}
+use Rattle.grammar.specs.declared.items.Binary.the-variants.{LessOrEqual}
 use Rattle.grammar.specs.declared.items.Item.the-variants as Item
 use Rattle.grammar.specs.declared.evaluation.Evaluated.{Evaluated}
 use Rattle.grammar.specs.declared.evaluation.Evaluated.the-variants.{Known, NoValue}
@@ -58,8 +59,10 @@ Agree stuck stuck = Unit {0}
 Agree (gives v) stuck = ⊥
 Agree stuck (gives k) = ⊥
 
-module _ (is : List (Step Evaluated)) (js : List (Step Kinded)) (rest : (vs : List Evaluated) (ks : List Kinded) → AllOf vs ks → Agree (runOf is vs) (runOf js ks)) where
-  one : (i : Step Evaluated) (j : Step Kinded) → Alike i j → (vs : List Evaluated) (ks : List Kinded) → AllOf vs ks → Agree (runOf (i ∷ is) vs) (runOf (j ∷ js) ks)
+module _ (is : List (Step Evaluated)) (js : List (Step Kinded))
+    (rest : (vs : List Evaluated) (ks : List Kinded) → AllOf vs ks → Agree (runOf is vs) (runOf js ks)) where
+  one : (i : Step Evaluated) (j : Step Kinded) → Alike i j → (vs : List Evaluated) (ks : List Kinded) → AllOf vs ks
+      → Agree (runOf (i ∷ is) vs) (runOf (j ∷ js) ks)
   unfolding runOf
   one (push v) (push k) a vs ks h = rest (v ∷ vs) (k ∷ ks) (a, h)
   one (change f) (change g) a [] [] h = tt
@@ -96,12 +99,15 @@ kind-cond true a b k h l = h
 kind-cond false a b k h l = l
 
 fitted-kind : (z : ℤ) → HasKind (fitted z) Kind.Integer
-fitted-kind z = kind-cond (ltZ z least) NoValue (cond (ltZ most z) NoValue (Known (Integer z))) Kind.Integer tt (kind-cond (ltZ most z) NoValue (Known (Integer z)) Kind.Integer tt refl)
+fitted-kind z =
+    kind-cond (ltZ z least) NoValue (cond (ltZ most z) NoValue (Known (Integer z))) Kind.Integer tt
+    (kind-cond (ltZ most z) NoValue (Known (Integer z)) Kind.Integer tt refl)
 
 divided-kind : (y z : ℤ) → HasKind (cond (isZero y) NoValue (fitted z)) Kind.Integer
 divided-kind y z = kind-cond (isZero y) NoValue (fitted z) Kind.Integer tt (fitted-kind z)
 
-ints-alike : (f : ℤ → ℤ → Evaluated) (r : Kind) → ((x y : ℤ) → HasKind (f x y) r) → Alike (join (strict2 (ints f))) (join (takes2 Kind.Integer r))
+ints-alike : (f : ℤ → ℤ → Evaluated) (r : Kind) → ((x y : ℤ) → HasKind (f x y) r)
+    → Alike (join (strict2 (ints f))) (join (takes2 Kind.Integer r))
 ints-alike f r ok (Known (Integer x)) (Known (Integer y)) (of Kind.Integer) (of Kind.Integer) h l = ok x y
 ints-alike f r ok (Known (Integer x)) (Known (Boolean y)) (of Kind.Integer) (of Kind.Integer) h l = tt
 ints-alike f r ok (Known (Integer x)) NoValue (of Kind.Integer) (of Kind.Integer) h l = tt
@@ -184,7 +190,8 @@ module _ (vars : List Slot) (kinds : List ℕ) (fit : Fit vars kinds) where
   step-alike left (item Item.Draw) = refl
   step-alike left none = tt
 
-  runs : (ws : List ℕ) (left : ℕ) (vs : List Evaluated) (ks : List Kinded) → AllOf vs ks → Agree (runOf (valueSteps vars left ws) vs) (runOf (kindSteps kinds ws) ks)
+  runs : (ws : List ℕ) (left : ℕ) (vs : List Evaluated) (ks : List Kinded) → AllOf vs ks
+      → Agree (runOf (valueSteps vars left ws) vs) (runOf (kindSteps kinds ws) ks)
   unfolding valueSteps kindSteps
   runs [] left vs ks h = ended vs ks h
   runs (w ∷ ws) left vs ks h =

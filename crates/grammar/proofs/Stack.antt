@@ -41,7 +41,8 @@ module _ {S A : Type 0} (val : S → A) (past : S) where
   short (join f) rest s (suc (suc d)) h = absurd (omega arith)
 
   -- a step that goes on
-  pub goes : (i : Step A) (rest : List (Step A)) (s : List S) (d b : ℕ) → d ≡ b + sizeOf i → runOf (i ∷ rest) (stackOf s d) ≡ runOf rest (made i (at s b) (at s (b + 1)) ∷ stackOf s b)
+  pub goes : (i : Step A) (rest : List (Step A)) (s : List S) (d b : ℕ) → d ≡ b + sizeOf i
+      → runOf (i ∷ rest) (stackOf s d) ≡ runOf rest (made i (at s b) (at s (b + 1)) ∷ stackOf s b)
   unfolding runOf
   goes (push a) rest s d b h =
       let q : d ≡ b = omega arith in
@@ -53,7 +54,9 @@ module _ {S A : Type 0} (val : S → A) (past : S) where
       let q : d ≡ suc (suc b) = omega arith in
       rw (q, add-one)
 
-  pub went : (i : Step A) (rest : List (Step A)) (s : List S) (d n : ℕ) → n ≡ sizeOf i → n ≤ d → d - n < length s → (v : S) → val v ≡ made i (at s (d - n)) (at s (d - n + 1)) → runOf rest (stackOf (set s (d - n) v) (d - n + 1)) ≡ runOf (i ∷ rest) (stackOf s d)
+  pub went : (i : Step A) (rest : List (Step A)) (s : List S) (d n : ℕ) → n ≡ sizeOf i → n ≤ d → d - n < length s → (v : S)
+      → val v ≡ made i (at s (d - n)) (at s (d - n + 1))
+      → runOf rest (stackOf (set s (d - n) v) (d - n + 1)) ≡ runOf (i ∷ rest) (stackOf s d)
   went i rest s d n e h l v k =
       ap (runOf rest) (stack-push s (d - n) v l ∙ ap (λ (a : A). a ∷ stackOf s (d - n)) k)
       ∙ sym (goes i rest s d (d - n) (omega arith))

@@ -39,7 +39,8 @@ deepest-least [] n = le-refl n
 deepest-least (w ∷ ws) n = le-max-left n (deepest ws (n - takesOf (itemOf w) + 1))
 
 module _ (ws : List ℕ) (at : ℕ) where
-  pub kind-next : (kinds : List ℕ) → at < length ws → kindSteps kinds (drop at ws) ≡ kindStep kinds (itemOf (getD ws at 0)) ∷ kindSteps kinds (drop (at + 1) ws)
+  pub kind-next : (kinds : List ℕ) → at < length ws
+      → kindSteps kinds (drop at ws) ≡ kindStep kinds (itemOf (getD ws at 0)) ∷ kindSteps kinds (drop (at + 1) ws)
   unfolding kindSteps
   kind-next kinds h = ap (kindSteps kinds) (next 0 ws at h)
 
@@ -47,7 +48,9 @@ module _ (ws : List ℕ) (at : ℕ) where
   unfolding kindSteps
   kind-done kinds h = ap (kindSteps kinds) (done ws at h)
 
-  pub value-next : (vars : List Slot) (left : ℕ) → at < length ws → valueSteps vars left (drop at ws) ≡ valueStep vars left (itemOf (getD ws at 0)) ∷ valueSteps vars (left / 2 ^ drawsIn (itemOf (getD ws at 0))) (drop (at + 1) ws)
+  pub value-next : (vars : List Slot) (left : ℕ) → at < length ws
+      → valueSteps vars left (drop at ws)
+      ≡ valueStep vars left (itemOf (getD ws at 0)) ∷ valueSteps vars (left / 2 ^ drawsIn (itemOf (getD ws at 0))) (drop (at + 1) ws)
   unfolding valueSteps
   value-next vars left h = ap (valueSteps vars left) (next 0 ws at h)
 
@@ -55,7 +58,8 @@ module _ (ws : List ℕ) (at : ℕ) where
   unfolding valueSteps
   value-done vars left h = ap (valueSteps vars left) (done ws at h)
 
-  pub deepest-next : (n : ℕ) → at < length ws → deepest (drop at ws) n ≡ max n (deepest (drop (at + 1) ws) (n - takesOf (itemOf (getD ws at 0)) + 1))
+  pub deepest-next : (n : ℕ) → at < length ws
+      → deepest (drop at ws) n ≡ max n (deepest (drop (at + 1) ws) (n - takesOf (itemOf (getD ws at 0)) + 1))
   unfolding deepest
   deepest-next n h = ap (λ (l : List ℕ). deepest l n) (next 0 ws at h)
 
@@ -64,4 +68,6 @@ module _ (ws : List ℕ) (at : ℕ) where
   deepest-done n h = ap (λ (l : List ℕ). deepest l n) (done ws at h)
 
   pub deepest-push : (n : ℕ) → at < length ws → 13 ≤ getD ws at 0 → deepest (drop at ws) n ≡ max n (deepest (drop (at + 1) ws) (n + 1))
-  deepest-push n h l = deepest-next n h ∙ ap (λ (k : ℕ). max n (deepest (drop (at + 1) ws) k)) (ap (λ (k : ℕ). n - k + 1) (takes-operand (getD ws at 0) l) ∙ omega arith)
+  deepest-push n h l =
+      deepest-next n h
+      ∙ ap (λ (k : ℕ). max n (deepest (drop (at + 1) ws) k)) (ap (λ (k : ℕ). n - k + 1) (takes-operand (getD ws at 0) l) ∙ omega arith)

@@ -24,7 +24,8 @@ use Rattle.grammar.specs.declared.values.«Type».{«Type» as Kind}
 use Rattle.grammar.specs.declared.values.Val.the-variants.{Boolean, Integer}
 use Rattle.grammar.specs.declared.values.Slot.{Slot}
 use Rattle.grammar.specs.declared.items.Unary.the-variants.{Not, Negate}
-use Rattle.grammar.specs.declared.items.Binary.the-variants.{And, Or, Add, Subtract, Multiply, Divide, Remainder, Equal, Less, LessOrEqual}
+use Rattle.grammar.specs.declared.items.Binary.the-variants.{And, Or, Add, Subtract, Multiply, Divide, Remainder, Equal, Less}
+use Rattle.grammar.specs.declared.items.Binary.the-variants.{LessOrEqual}
 use Rattle.grammar.specs.declared.items.Item.{Item}
 use Rattle.grammar.specs.declared.items.Item.the-variants as Item
 use Rattle.grammar.specs.declared.typing.Typed.{Typed}
@@ -45,7 +46,8 @@ record Found (kinds ws : List ℕ) (k : Kind) : Type 0 where
   run : runOf (kindSteps kinds ws) [] ≡ gives (of k)
 
 -- a ladder that ends in a kind was climbed
-climbed : (t : Bool) (refused rest : Typed) (k : Kind) → (refused ≡ Known k → ⊥) → unless t refused rest ≡ Known k → (t ≡ true) × (rest ≡ Known k)
+climbed : (t : Bool) (refused rest : Typed) (k : Kind) → (refused ≡ Known k → ⊥) → unless t refused rest ≡ Known k
+    → (t ≡ true) × (rest ≡ Known k)
 unfolding unless
 climbed true refused rest k not e = (refl, e)
 climbed false refused rest k not e = absurd (not e)
@@ -76,16 +78,20 @@ given : (r : Ran Evaluated) (q : Ran Kinded) (k : Kind) → Agree r q → q ≡ 
 given (gives v) q k h e = (v, (refl, subst (Agree (gives v)) e h))
 given stuck q k h e = absurd (subst (Agree stuck) e h)
 
-module _ (vars : List Slot) (kinds : List ℕ) (fit : Fit vars kinds) (ws : List ℕ) (k : Kind) (typed : typeOf kinds ws ≡ Known k) (word : ℕ) where
+module _ (vars : List Slot) (kinds : List ℕ) (fit : Fit vars kinds) (ws : List ℕ) (k : Kind) (typed : typeOf kinds ws ≡ Known k)
+    (word : ℕ) where
   -- An expression typed as a kind never sticks on variables of their kinds,
   pub typed-runs : (v : Evaluated) × ((runOf (valueSteps vars word ws) [] ≡ gives v) × HasKind v k)
-  typed-runs = given (runOf (valueSteps vars word ws) []) (runOf (kindSteps kinds ws) []) k (agree vars kinds fit ws word) (found kinds ws k typed .run)
+  typed-runs =
+      given (runOf (valueSteps vars word ws) []) (runOf (kindSteps kinds ws) []) k (agree vars kinds fit ws word)
+      (found kinds ws k typed .run)
 
   -- and has a value of that kind or none.
   pub typed-value : HasKind (valueOf vars word ws) k
   typed-value =
       let r = typed-runs in
-      subst (λ (e : Evaluated). HasKind e k) (value-given vars word ws {v = r .0} (le-leb (deepest ws 0) 16 (found kinds ws k typed .shallow)) (r .1 .0)) (r .1 .1)
+      subst (λ (e : Evaluated). HasKind e k)
+      (value-given vars word ws {v = r .0} (le-leb (deepest ws 0) 16 (found kinds ws k typed .shallow)) (r .1 .0)) (r .1 .1)
 
 module _ (kinds ws : List ℕ) (k : Kind) (typed : typeOf kinds ws ≡ Known k) where
   -- It never has more than 16 operands waiting,
@@ -140,11 +146,13 @@ module _ (vars : List Slot) where
   same-steps (w ∷ ws) u v e =
       let m = drawsIn (itemOf w) in
       ap (λ (s : Step Evaluated). s ∷ valueSteps vars (u / 2 ^ m) ws) (same-step (itemOf w) u v (here m (drawsOf ws) u v e))
-      ∙ ap (λ (l : List (Step Evaluated)). valueStep vars v (itemOf w) ∷ l) (same-steps ws (u / 2 ^ m) (v / 2 ^ m) (after m (drawsOf ws) u v e))
+      ∙ ap (λ (l : List (Step Evaluated)). valueStep vars v (itemOf w) ∷ l)
+      (same-steps ws (u / 2 ^ m) (v / 2 ^ m) (after m (drawsOf ws) u v e))
 
   pub bits-read : (ws : List ℕ) (u v : ℕ) → u % 2 ^ drawsOf ws ≡ v % 2 ^ drawsOf ws → valueOf vars u ws ≡ valueOf vars v ws
   unfolding valueOf
-  bits-read ws u v e = ap (λ (l : List (Step Evaluated)). unless (leb (deepest ws 0) 16) NoValue (resultOf (runOf l []))) (same-steps ws u v e)
+  bits-read ws u v e =
+      ap (λ (l : List (Step Evaluated)). unless (leb (deepest ws 0) 16) NoValue (resultOf (runOf l []))) (same-steps ws u v e)
 
   pub word-unread : (ws : List ℕ) (u v : ℕ) → drawsOf ws ≡ 0 → valueOf vars u ws ≡ valueOf vars v ws
   word-unread ws u v e = bits-read ws u v (rw e (omega arith))
@@ -160,7 +168,9 @@ Proper Item.Draw = Unit {0}
 
 -- The word of an item says that item.
 operand-back : (p op : ℕ) → 14 ≤ op → op < 256 → itemOf (p * 256 + op) ≡ operandOf op p
-operand-back p op l h = high (p * 256 + op) (omega arith) ∙ ap (λ (o : ℕ). operandOf o ((p * 256 + op) / 256)) (digits-mod p h) ∙ ap (operandOf op) (digits-div p h)
+operand-back p op l h =
+    high (p * 256 + op) (omega arith) ∙ ap (λ (o : ℕ). operandOf o ((p * 256 + op) / 256)) (digits-mod p h)
+    ∙ ap (operandOf op) (digits-div p h)
 
 number-back : (n : ℤ) → SFits w32 n → operandOf 15 (bitsOf n) ≡ constant (Integer n)
 number-back n f = rw (lt-ltb (bitsOf n) 4294967296 (bits-small n f)) (ap (λ (z : ℤ). constant (Integer z)) (from-bits-of n f))
@@ -188,4 +198,26 @@ read-back Item.Draw p = refl
 -- The marked examples.
 pub marked : Hold examples
 unfolding itemOf drawsOf deepest runOf unless kindSteps typeOf valueSteps valueOf evaluationOf
-marked = (refl, (refl, (refl, (refl, (refl, (refl, (refl, (refl, (refl, (refl, (refl, (refl, (refl, (refl, (refl, (refl, (refl, (refl, (refl, (refl, (refl, (refl, (refl, (refl, (refl, (refl, (refl, (refl, (refl, (refl, (refl, (refl, (refl, (refl, (refl, tt)))))))))))))))))))))))))))))))))))
+marked =
+    (refl,
+    (refl,
+    (refl,
+    (refl,
+    (refl,
+    (refl,
+    (refl,
+    (refl,
+    (refl,
+    (refl,
+    (refl,
+    (refl,
+    (refl,
+    (refl,
+    (refl,
+    (refl,
+    (refl,
+    (refl,
+    (refl,
+    (refl,
+    (refl,
+    (refl, (refl, (refl, (refl, (refl, (refl, (refl, (refl, (refl, (refl, (refl, (refl, (refl, (refl, tt)))))))))))))))))))))))))))))))))))

@@ -37,7 +37,13 @@ module _ (w : ℕ) where
   pub some : operatesOf w ≡ true → 1 ≤ takesOf (itemOf w)
   some e =
       low-any 13 (lit≤ tt) (λ (w : ℕ) (r : Read). operatesOf w ≡ true → 1 ≤ takesOf r)
-      ((λ e. let z : _≡_ {A = ℕ} 0 1 = cc in absurd (omega arith)), ((λ e. lit≤ tt), ((λ e. lit≤ tt), ((λ e. lit≤ tt), ((λ e. lit≤ tt), ((λ e. lit≤ tt), ((λ e. lit≤ tt), ((λ e. lit≤ tt), ((λ e. lit≤ tt), ((λ e. lit≤ tt), ((λ e. lit≤ tt), ((λ e. lit≤ tt), ((λ e. lit≤ tt), tt)))))))))))))
+      ((λ e. let z : _≡_ {A = ℕ} 0 1 = cc in absurd (omega arith)),
+      ((λ e. lit≤ tt),
+      ((λ e. lit≤ tt),
+      ((λ e. lit≤ tt),
+      ((λ e. lit≤ tt),
+      ((λ e. lit≤ tt),
+      ((λ e. lit≤ tt), ((λ e. lit≤ tt), ((λ e. lit≤ tt), ((λ e. lit≤ tt), ((λ e. lit≤ tt), ((λ e. lit≤ tt), ((λ e. lit≤ tt), tt)))))))))))))
       w (small e) e
 
   large : operatesOf w ≡ false → (w ≡ 0 → ⊥) → 13 ≤ w
@@ -57,15 +63,23 @@ module _ (vars : List Slot) (left : ℕ) (a b : Evaluated) (w : ℕ) where
   unfolding itemOf
   drawn e = rw e
 
-  pub looked-up : w % 256 ≡ 16 → cond (ltb (w / 256) 16) (Known (getD vars (slotOf w) blank .value)) NoValue ≡ made (valueStep vars left (itemOf w)) a b
+  pub looked-up : w % 256 ≡ 16
+      → cond (ltb (w / 256) 16) (Known (getD vars (slotOf w) blank .value)) NoValue ≡ made (valueStep vars left (itemOf w)) a b
   unfolding operandOn
-  looked-up e = subst (λ (r : Read). cond (ltb (w / 256) 16) (Known (getD vars (slotOf w) blank .value)) NoValue ≡ operandOn (getD vars (slotOf w) blank .value) (w / 256) left r) (sym (high w (omega arith))) (rw e) ∙ operand-word vars left a b w (omega arith)
+  looked-up e =
+      subst (λ (r : Read). cond (ltb (w / 256) 16) (Known (getD vars (slotOf w) blank .value)) NoValue
+      ≡ operandOn (getD vars (slotOf w) blank .value)
+      (w / 256) left r) (sym (high w (omega arith))) (rw e) ∙ operand-word vars left a b w (omega arith)
 
-  pub constant : operatesOf w ≡ false → (w ≡ 13 → ⊥) → operandOn (getD vars (slotOf w) blank .value) (w / 256) 0 (operandOf (w % 256) (w / 256)) ≡ made (valueStep vars left (itemOf w)) a b
+  pub constant : operatesOf w ≡ false → (w ≡ 13 → ⊥)
+      → operandOn (getD vars (slotOf w) blank .value) (w / 256) 0 (operandOf (w % 256) (w / 256))
+      ≡ made (valueStep vars left (itemOf w)) a b
   unfolding operandOn itemOf
   constant e n = by (ℕ-discrete w 0)
     where
-      by : Dec (w ≡ 0) → operandOn (getD vars (slotOf w) blank .value) (w / 256) 0 (operandOf (w % 256) (w / 256)) ≡ made (valueStep vars left (itemOf w)) a b
+      by : Dec (w ≡ 0)
+          → operandOn (getD vars (slotOf w) blank .value) (w / 256) 0 (operandOf (w % 256) (w / 256))
+          ≡ made (valueStep vars left (itemOf w)) a b
       by (yes z) = rw z
       by (no z) =
           let h : 14 ≤ w = omega (arith, large w e z) in
@@ -88,31 +102,43 @@ pub record Going (items : List ℕ) (vars : List Slot) (word : ℕ) (stack : Lis
   pub same-depth : leb (deepest (drop at items) depth) 16 ≡ leb (deepest items 0) 16
   pub same-left : left / 2 ^ drawsOf (drop at items) ≡ word / 2 ^ drawsOf items
 
-module _ {items : List ℕ} {vars : List Slot} {word : ℕ} {stack : List ℕ} {left depth at : ℕ} (g : Going items vars word stack left depth at) where
+module _ {items : List ℕ} {vars : List Slot} {word : ℕ} {stack : List ℕ} {left depth at : ℕ}
+    (g : Going items vars word stack left depth at) where
   finished : length items ≤ at → runOf [] (stackOf heldOf 0 stack depth) ≡ runOf (valueSteps vars word items) []
-  finished h = ap (λ (is : List (Step Evaluated)). runOf is (stackOf heldOf 0 stack depth)) (sym (value-done items at vars left h)) ∙ g .same-run
+  finished h =
+      ap (λ (is : List (Step Evaluated)). runOf is (stackOf heldOf 0 stack depth)) (sym (value-done items at vars left h)) ∙ g .same-run
 
   pub stuck-here : length items ≤ at → (depth ≡ 1 → ⊥) → NoValue ≡ valueOf vars word items
   stuck-here h n = value-stuck vars word items (sym (finished h) ∙ ends heldOf 0 stack depth n)
 
   pub gives-value : length items ≤ at → depth ≡ 1 → heldOf (getD stack 0 0) ≡ valueOf vars word items
-  gives-value h e = value-given vars word items (sym (g .same-depth) ∙ le-leb (deepest (drop at items) depth) 16 (omega (arith, g .shallow, deepest-done items at depth h))) (sym (finished h) ∙ ended heldOf 0 stack depth e)
+  gives-value h e =
+      value-given vars word items
+      (sym (g .same-depth)
+      ∙ le-leb (deepest (drop at items) depth) 16 (omega (arith, g .shallow, deepest-done items at depth h))) (sym (finished h)
+      ∙ ended heldOf 0 stack depth e)
 
   module _ (h : at < length items) where
-    step : runOf (valueStep vars left (itemOf (getD items at 0)) ∷ valueSteps vars (left / 2 ^ drawsIn (itemOf (getD items at 0))) (drop (at + 1) items)) (stackOf heldOf 0 stack depth) ≡ runOf (valueSteps vars word items) []
-    step = ap (λ (is : List (Step Evaluated)). runOf is (stackOf heldOf 0 stack depth)) (sym (value-next items at vars left h)) ∙ g .same-run
+    step : runOf (valueStep vars left (itemOf (getD items at 0)) ∷ valueSteps vars (left / 2 ^ drawsIn (itemOf (getD items at 0)))
+        (drop (at + 1) items)) (stackOf heldOf 0 stack depth) ≡ runOf (valueSteps vars word items) []
+    step =
+        ap (λ (is : List (Step Evaluated)). runOf is (stackOf heldOf 0 stack depth)) (sym (value-next items at vars left h)) ∙ g .same-run
 
     pub too-few : depth < takesOf (itemOf (getD items at 0)) → NoValue ≡ valueOf vars word items
     too-few l =
         value-stuck vars word items
-        (sym step ∙ short heldOf 0 (valueStep vars left (itemOf (getD items at 0))) _ stack depth (omega (arith, value-size vars left (itemOf (getD items at 0)))))
+        (sym step
+        ∙ short heldOf 0 (valueStep vars left (itemOf (getD items at 0))) _ stack depth
+        (omega (arith, value-size vars left (itemOf (getD items at 0)))))
 
     pub too-deep : takesOf (itemOf (getD items at 0)) ≡ 0 → 16 ≤ depth → NoValue ≡ valueOf vars word items
     too-deep e l =
-        let deep : 16 < deepest (drop at items) depth = omega (arith, rw e at (deepest-next items at depth h), deepest-least (drop (at + 1) items) (depth - 0 + 1)) in
+        let deep : 16 < deepest (drop at items) depth =
+        omega (arith, rw e at (deepest-next items at depth h), deepest-least (drop (at + 1) items) (depth - 0 + 1)) in
         value-deep vars word items (sym (g .same-depth) ∙ lt-leb (deepest (drop at items) depth) 16 deep)
 
-    pub goes-on : (base takes v rest : ℕ) → depth ≡ base + takes → takes ≡ takesOf (itemOf (getD items at 0)) → base < 16 → rest ≡ left / 2 ^ drawsIn (itemOf (getD items at 0))
+    pub goes-on : (base takes v rest : ℕ) → depth ≡ base + takes → takes ≡ takesOf (itemOf (getD items at 0)) → base < 16
+        → rest ≡ left / 2 ^ drawsIn (itemOf (getD items at 0))
         → heldOf v ≡ made (valueStep vars left (itemOf (getD items at 0))) (heldOf (getD stack base 0)) (heldOf (getD stack (base + 1) 0))
         → Going items vars word (set stack base v) rest (base + 1) (at + 1)
     goes-on base takes v rest d t l r k =
@@ -121,15 +147,19 @@ module _ {items : List ℕ} {vars : List Slot} {word : ℕ} {stack : List ℕ} {
         let i = valueStep vars left (itemOf w) in
         let is = valueSteps vars (left / 2 ^ drawsIn (itemOf w)) after in
         let q : depth - takes ≡ base = omega arith in
-        let more : deepest (drop at items) depth ≡ max depth (deepest after (base + 1)) = deepest-next items at depth h ∙ ap (λ (n : ℕ). max depth (deepest after n)) (omega arith) in
+        let more : deepest (drop at items) depth ≡ max depth (deepest after (base + 1)) =
+        deepest-next items at depth h ∙ ap (λ (n : ℕ). max depth (deepest after n)) (omega arith) in
         record {
           within = omega arith;
           shallow = omega arith;
           slots = simp length-set (g .slots);
           same-run = ap (λ (n : ℕ). runOf (valueSteps vars n after) (stackOf heldOf 0 (set stack base v) (base + 1))) r
-              ∙ subst (λ (b : ℕ). heldOf v ≡ made i (heldOf (getD stack b 0)) (heldOf (getD stack (b + 1) 0)) → runOf is (stackOf heldOf 0 (set stack b v) (b + 1)) ≡ runOf (i ∷ is) (stackOf heldOf 0 stack depth)) q
+              ∙ subst (λ (b : ℕ). heldOf v ≡ made i (heldOf (getD stack b 0)) (heldOf (getD stack (b + 1) 0)) → runOf is
+              (stackOf heldOf 0 (set stack b v) (b + 1)) ≡ runOf (i ∷ is) (stackOf heldOf 0 stack depth)) q
               (went heldOf 0 i is stack depth takes (t ∙ value-size vars left (itemOf w)) (omega arith) (omega (arith, g .slots)) v) k
               ∙ step;
-          same-depth = leb-same (deepest after (base + 1)) 16 (deepest (drop at items) depth) 16 (λ m. omega (arith, more, g .shallow)) (λ m. omega (arith, more)) ∙ g .same-depth;
+          same-depth =
+              leb-same (deepest after (base + 1)) 16 (deepest (drop at items) depth) 16 (λ m. omega (arith, more, g .shallow))
+              (λ m. omega (arith, more)) ∙ g .same-depth;
           same-left = ap (λ (n : ℕ). n / 2 ^ drawsOf after) r ∙ left-next items at left h ∙ g .same-left;
         }

@@ -53,10 +53,16 @@ plus : (a b c d : ℕ) → subℕ a b +ℤ subℕ c d ≡ subℕ (a + c) (b + d)
 plus a b c d = by (side a b) (side c d)
   where
     by : Side a b → Side c d → subℕ a b +ℤ subℕ c d ≡ subℕ (a + c) (b + d)
-    by (above h p) (above k q) = ap (λ (z : ℤ). z +ℤ subℕ c d) p ∙ ap (λ (z : ℤ). pos (a - b) +ℤ z) q ∙ ap pos (omega arith) ∙ sym (up (a + c) (b + d) (omega arith))
-    by (above h p) (below k q) = ap (λ (z : ℤ). z +ℤ subℕ c d) p ∙ ap (λ (z : ℤ). pos (a - b) +ℤ z) q ∙ same (a - b) (suc (d - suc c)) (a + c) (b + d) (omega arith)
-    by (below h p) (above k q) = ap (λ (z : ℤ). z +ℤ subℕ c d) p ∙ ap (λ (z : ℤ). negsuc (b - suc a) +ℤ z) q ∙ same (c - d) (suc (b - suc a)) (a + c) (b + d) (omega arith)
-    by (below h p) (below k q) = ap (λ (z : ℤ). z +ℤ subℕ c d) p ∙ ap (λ (z : ℤ). negsuc (b - suc a) +ℤ z) q ∙ ap negsuc (omega arith) ∙ sym (down (a + c) (b + d) (omega arith))
+    by (above h p) (above k q) =
+        ap (λ (z : ℤ). z +ℤ subℕ c d) p ∙ ap (λ (z : ℤ). pos (a - b) +ℤ z) q ∙ ap pos (omega arith) ∙ sym (up (a + c) (b + d) (omega arith))
+    by (above h p) (below k q) =
+        ap (λ (z : ℤ). z +ℤ subℕ c d) p ∙ ap (λ (z : ℤ). pos (a - b) +ℤ z) q ∙ same (a - b) (suc (d - suc c)) (a + c) (b + d) (omega arith)
+    by (below h p) (above k q) =
+        ap (λ (z : ℤ). z +ℤ subℕ c d) p ∙ ap (λ (z : ℤ). negsuc (b - suc a) +ℤ z) q
+        ∙ same (c - d) (suc (b - suc a)) (a + c) (b + d) (omega arith)
+    by (below h p) (below k q) =
+        ap (λ (z : ℤ). z +ℤ subℕ c d) p ∙ ap (λ (z : ℤ). negsuc (b - suc a) +ℤ z) q ∙ ap negsuc (omega arith)
+        ∙ sym (down (a + c) (b + d) (omega arith))
 
 negated : (n : ℕ) → negℤ (pos n) ≡ subℕ 0 n
 negated zero = refl
@@ -98,21 +104,39 @@ pub less-as : (x y : ℕ) → ltb x y ≡ ltZ (wholeOf x) (wholeOf y)
 less-as x y =
     sym
     (ordered ltZ ltb
-    (record { both-above = λ a b. refl; both-below = λ a b. refl; more = λ a b c d h. sym (le-ltb c d (omega arith)); less = λ a b c d h. sym (lt-ltb c d h); shift = λ a b c d e. leb-same (suc a) b (suc c) d (λ h. omega arith) (λ h. omega arith) })
+    (record {
+      both-above = λ a b. refl;
+      both-below = λ a b. refl;
+      more = λ a b c d h. sym (le-ltb c d (omega arith));
+      less = λ a b c d h. sym (lt-ltb c d h);
+      shift = λ a b c d e. leb-same (suc a) b (suc c) d (λ h. omega arith) (λ h. omega arith);
+    })
     x y)
 
 pub most-as : (x y : ℕ) → leb x y ≡ leZ (wholeOf x) (wholeOf y)
 most-as x y =
     sym
     (ordered leZ leb
-    (record { both-above = λ a b. refl; both-below = λ a b. refl; more = λ a b c d h. sym (lt-leb c d h); less = λ a b c d h. sym (le-leb c d (omega arith)); shift = λ a b c d e. leb-same a b c d (λ h. omega arith) (λ h. omega arith) })
+    (record {
+      both-above = λ a b. refl;
+      both-below = λ a b. refl;
+      more = λ a b c d h. sym (lt-leb c d h);
+      less = λ a b c d h. sym (le-leb c d (omega arith));
+      shift = λ a b c d e. leb-same a b c d (λ h. omega arith) (λ h. omega arith);
+    })
     x y)
 
 pub equal-as : (x y : ℕ) → eqb x y ≡ eqZ (wholeOf x) (wholeOf y)
 equal-as x y =
     sym
     (ordered eqZ eqb
-    (record { both-above = λ a b. refl; both-below = λ a b. eqb-same a b b a sym sym; more = λ a b c d h. sym (ne-eqb c d (λ e. omega arith)); less = λ a b c d h. sym (ne-eqb c d (λ e. omega arith)); shift = λ a b c d e. eqb-same a b c d (λ h. omega arith) (λ h. omega arith) })
+    (record {
+      both-above = λ a b. refl;
+      both-below = λ a b. eqb-same a b b a sym sym;
+      more = λ a b c d h. sym (ne-eqb c d (λ e. omega arith));
+      less = λ a b c d h. sym (ne-eqb c d (λ e. omega arith));
+      shift = λ a b c d e. eqb-same a b c d (λ h. omega arith) (λ h. omega arith);
+    })
     x y)
 
 -- 32 bits from a number that waits, and back
@@ -130,21 +154,42 @@ pub record Waits (n : ℤ) : Type 0 where
   pub back : wholeOf x ≡ n
 
 pub waits : (n : ℤ) → SFits w32 n → Waits n
-waits (pos k) f = record { x = k + 2147483648; small = omega (arith, f .sfits); is = refl; back = up (k + 2147483648) 2147483648 (omega arith) ∙ ap pos (omega arith) }
+waits (pos k) f =
+    record {
+      x = k + 2147483648;
+      small = omega (arith, f .sfits);
+      is = refl;
+      back = up (k + 2147483648) 2147483648 (omega arith) ∙ ap pos (omega arith);
+    }
 waits (negsuc k) f =
-    record { x = 2147483648 - suc k; small = omega arith; is = up 2147483648 (suc k) (omega (arith, f .sfits)); back = down (2147483648 - suc k) 2147483648 (omega (arith, f .sfits)) ∙ ap negsuc (omega (arith, f .sfits)) }
+    record {
+      x = 2147483648 - suc k;
+      small = omega arith;
+      is = up 2147483648 (suc k) (omega (arith, f .sfits));
+      back = down (2147483648 - suc k) 2147483648 (omega (arith, f .sfits)) ∙ ap negsuc (omega (arith, f .sfits));
+    }
 
 -- the range test of a number that waits twice as far
 module _ (s : ℕ) where
   pub too-low : s < 2147483648 → fitted (subℕ s 4294967296) ≡ NoValue
-  too-low h = fitted-low (subℕ s 4294967296) (ap (λ (z : ℤ). ltZ z least) (down s 4294967296 (omega arith)) ∙ lt-ltb 2147483647 (4294967296 - suc s) (omega arith))
+  too-low h =
+      fitted-low (subℕ s 4294967296)
+      (ap (λ (z : ℤ). ltZ z least) (down s 4294967296 (omega arith)) ∙ lt-ltb 2147483647 (4294967296 - suc s) (omega arith))
 
   pub too-high : 6442450944 ≤ s → fitted (subℕ s 4294967296) ≡ NoValue
-  too-high h = fitted-high (subℕ s 4294967296) (ap (λ (z : ℤ). ltZ z least) (up s 4294967296 (omega arith))) (ap (λ (z : ℤ). ltZ most z) (up s 4294967296 (omega arith)) ∙ lt-ltb 2147483647 (s - 4294967296) (omega arith))
+  too-high h =
+      fitted-high (subℕ s 4294967296) (ap (λ (z : ℤ). ltZ z least) (up s 4294967296 (omega arith)))
+      (ap (λ (z : ℤ). ltZ most z) (up s 4294967296 (omega arith)) ∙ lt-ltb 2147483647 (s - 4294967296) (omega arith))
 
   pub in-between : 2147483648 ≤ s → s < 6442450944 → fitted (subℕ s 4294967296) ≡ Known (Integer (wholeOf (s - 2147483648)))
   in-between h k = by (side s 4294967296)
     where
       by : Side s 4294967296 → fitted (subℕ s 4294967296) ≡ Known (Integer (wholeOf (s - 2147483648)))
-      by (above l p) = ap fitted p ∙ rw (le-ltb 2147483647 (s - 4294967296) (omega arith)) (ap (λ (z : ℤ). Known (Integer z)) (sym p ∙ same s 4294967296 (s - 2147483648) 2147483648 (omega arith)))
-      by (below l p) = ap fitted p ∙ rw (le-ltb 2147483647 (4294967296 - suc s) (omega arith)) (ap (λ (z : ℤ). Known (Integer z)) (sym p ∙ same s 4294967296 (s - 2147483648) 2147483648 (omega arith)))
+      by (above l p) =
+          ap fitted p
+          ∙ rw (le-ltb 2147483647 (s - 4294967296) (omega arith)) (ap (λ (z : ℤ). Known (Integer z))
+          (sym p ∙ same s 4294967296 (s - 2147483648) 2147483648 (omega arith)))
+      by (below l p) =
+          ap fitted p
+          ∙ rw (le-ltb 2147483647 (4294967296 - suc s) (omega arith)) (ap (λ (z : ℤ). Known (Integer z))
+          (sym p ∙ same s 4294967296 (s - 2147483648) 2147483648 (omega arith)))

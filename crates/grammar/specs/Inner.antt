@@ -1,6 +1,6 @@
 -- What the inner functions say of words and of the numbers that they hold. No public call speaks of it.
 use Prim.Native.Nat.{ℕ, zero, suc, _+_, _-_, _*_, _/_, _%_, _^_, _≤_, _<_}
-use mathlib.Core.Bool.{Bool, true, false, cond}
+use mathlib.Core.Bool.{Bool, true, false, cond, not}
 use mathlib.Core.Path.{_≡_}
 use mathlib.Core.List.{List, [], _∷_}
 use lib.Dec.{eqb, ltb}
@@ -9,12 +9,13 @@ use lib.ListN.{getD}
 use Rattle.grammar.specs.Values.{kindOf, kindWord}
 use Rattle.grammar.specs.Items.{Read, item, none}
 use Rattle.grammar.specs.Draws.{drawsOf}
-use Rattle.grammar.specs.Run.{Step, runOf, sizeOf}
-use Rattle.grammar.specs.Typing.{Kinded, of, ill, kindedAt, variableKind, kindSteps, judged}
+use Rattle.grammar.specs.Run.{Step, push, change, join, runOf, sizeOf}
+use Rattle.grammar.specs.Typing.{Kinded, of, ill, kindedAt, variableKind, kindSteps, judged, typeOf}
 use Rattle.grammar.specs.Evaluation.{drawOf, valuesOf, binaryOf}
 use Rattle.grammar.specs.declared.values.Val.{Val}
 use Rattle.grammar.specs.declared.values.Val.the-variants.{Boolean, Integer}
 use Rattle.grammar.specs.declared.items.Item.the-variants as Item
+use Rattle.grammar.specs.declared.values.«Type».{«Type» as Kind}
 use Rattle.grammar.specs.declared.values.«Type».the-variants as Kind
 use Rattle.grammar.specs.declared.typing.Typed.{Typed}
 use Rattle.grammar.specs.declared.typing.Typed.the-variants as Typed
@@ -59,7 +60,8 @@ pub record Left (i : Step Kinded) (n bits : ℕ) (r : Waiting) : Type 0 where
   pub small : r .integers < 2 ^ r .depth
   pub fewer : r .depth ≤ n
   pub exact : 1 ≤ r .depth → r .depth ≡ n - sizeOf i + 1
-  pub goes : 1 ≤ r .depth → (steps : List (Step Kinded)) → runOf steps (planeOf (r .depth) (r .integers)) ≡ runOf (i ∷ steps) (planeOf n bits)
+  pub goes : 1 ≤ r .depth → (steps : List (Step Kinded))
+      → runOf steps (planeOf (r .depth) (r .integers)) ≡ runOf (i ∷ steps) (planeOf n bits)
   pub fails : r .depth ≡ 0 → (deep : ℕ) (kinds ws : List ℕ) → judged (runOf (i ∷ kindSteps kinds ws) (planeOf n bits)) deep ≡ Typed.IllTyped
 
 -- an answer and its draws as one number, and the answer in it
@@ -70,10 +72,55 @@ codeOf Typed.IllTyped n = 4
 codeOf Typed.TableFull n = 5
 
 abbrev pub answers : List Typed
-answers = Typed.Known Kind.Boolean ∷ Typed.Known Kind.Integer ∷ Typed.TooDeep Kind.Boolean ∷ Typed.TooDeep Kind.Integer ∷ Typed.IllTyped ∷ []
+answers =
+    Typed.Known Kind.Boolean ∷ Typed.Known Kind.Integer ∷ Typed.TooDeep Kind.Boolean ∷ Typed.TooDeep Kind.Integer ∷ Typed.IllTyped ∷ []
 
 abbrev pub typedIn : ℕ → Typed
 typedIn code = getD answers (code % 8) Typed.TableFull
+
+-- operands that wait as one number: a digit to base 4 for each, the last the lowest, 1 for a boolean and 2 for an integer
+unfoldable pub digitsOf : List Kind → ℕ
+digitsOf [] = 0
+digitsOf (k ∷ waiting) = 4 * digitsOf waiting + kindWord k + 1
+
+-- one operand more; 0 where it is ill-typed
+abbrev pub digitsWith : Kinded → ℕ → ℕ
+digitsWith (of k) digits = 4 * digits + kindWord k + 1
+digitsWith ill digits = 0
+
+-- what a step leaves of them; 0 where they do not fit it
+unfoldable pub leftOf : Step Kinded → List Kind → ℕ
+leftOf (push k) waiting = digitsWith k (digitsOf waiting)
+leftOf (change f) [] = 0
+leftOf (change f) (a ∷ waiting) = digitsWith (f (of a)) (digitsOf waiting)
+leftOf (join f) [] = 0
+leftOf (join f) (b ∷ []) = 0
+leftOf (join f) (b ∷ a ∷ waiting) = digitsWith (f (of a) (of b)) (digitsOf waiting)
+
+-- a kind and the draws as one number; 3 where it is not well typed
+abbrev pub knownOf : Typed → ℕ → ℕ
+knownOf (Typed.Known k) n = 4 * n + kindWord k + 1
+knownOf (Typed.TooDeep k) n = 3
+knownOf Typed.IllTyped n = 3
+knownOf Typed.TableFull n = 3
+
+-- the same of an expression over variables of these kinds; 0 where there are no items
+unfoldable pub knownIn : List ℕ → List ℕ → ℕ
+knownIn kinds [] = 0
+knownIn kinds (w ∷ ws) = knownOf (typeOf kinds (w ∷ ws)) (drawsOf (w ∷ ws))
+
+-- what that number says: a kind, any kind, how many draws; and whether it will do for a guard
+abbrev pub isOf : ℕ → ℕ → Bool
+isOf known k = eqb (known % 4) (k + 1)
+
+abbrev pub isKnown : ℕ → Bool
+isKnown known = cond (eqb known 0) false (not (eqb (known % 4) 3))
+
+abbrev pub drawsTold : ℕ → ℕ
+drawsTold known = known / 4
+
+abbrev pub guardsOf : ℕ → Bool
+guardsOf known = ltb known 2
 
 -- an integer that waits as z + 2147483648
 abbrev pub wholeOf : ℕ → ℤ

@@ -10,7 +10,8 @@ use Rattle.grammar.specs.declared.values.Val.the-variants.{Boolean, Inte
 use Rattle.grammar.specs.declared.items.Unary.{Unary}
 use Rattle.grammar.specs.declared.items.Unary.the-variants.{Not, Negate}
 use Rattle.grammar.specs.declared.items.Binary.{Binary}
-use Rattle.grammar.specs.declared.items.Binary.the-variants.{And, Or, Add, Subtract, Multiply, Divide, Remainder, Equal, Less, LessOrEqual}
+use Rattle.grammar.specs.declared.items.Binary.the-variants.{And, Or, Add, Subtract, Multiply, Divide, Remainder, Equal, Less}
+use Rattle.grammar.specs.declared.items.Binary.the-variants.{LessOrEqual}
 use Rattle.grammar.specs.declared.items.Item.{Item}
 use Rattle.grammar.specs.declared.items.Item.the-variants as Item
 
@@ -52,7 +53,8 @@ pub data Read : Type 0 where
 abbrev pub operations : List Read
 operations =
     none ∷ item (Item.Unary Not) ∷ item (Item.Binary And) ∷ item (Item.Binary Or) ∷ item (Item.Unary Negate)
-    ∷ item (Item.Binary Add) ∷ item (Item.Binary Subtract) ∷ item (Item.Binary Multiply) ∷ item (Item.Binary Divide) ∷ item (Item.Binary Remainder)
+    ∷ item (Item.Binary Add) ∷ item (Item.Binary Subtract) ∷ item (Item.Binary Multiply) ∷ item (Item.Binary Divide)
+    ∷ item (Item.Binary Remainder)
     ∷ item (Item.Binary Equal) ∷ item (Item.Binary Less) ∷ item (Item.Binary LessOrEqual) ∷ item Item.Draw ∷ []
 
 abbrev pub constant : Val → Read

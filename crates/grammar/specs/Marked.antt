@@ -12,7 +12,8 @@ use Rattle.grammar.specs.declared.values.«Type».the-variants as Kind
 use Rattle.grammar.specs.declared.values.Val.the-variants.{Boolean, Integer}
 use Rattle.grammar.specs.declared.values.Slot.{Slot}
 use Rattle.grammar.specs.declared.items.Unary.the-variants.{Not, Negate}
-use Rattle.grammar.specs.declared.items.Binary.the-variants.{And, Or, Add, Subtract, Multiply, Divide, Remainder, Equal, Less, LessOrEqual}
+use Rattle.grammar.specs.declared.items.Binary.the-variants.{And, Or, Add, Subtract, Multiply, Divide, Remainder, Equal, Less}
+use Rattle.grammar.specs.declared.items.Binary.the-variants.{LessOrEqual}
 use Rattle.grammar.specs.declared.items.Item.{Item}
 use Rattle.grammar.specs.declared.items.Item.the-variants.{Constant, Variable, Unary, Binary, Draw}
 use Rattle.grammar.specs.declared.typing.Typed.{Typed}

@@ -15,7 +15,8 @@ use Rattle.grammar.specs.declared.values.«Type».the-variants.{Boolean,
 use Rattle.grammar.specs.declared.items.Unary.{Unary}
 use Rattle.grammar.specs.declared.items.Unary.the-variants.{Not, Negate}
 use Rattle.grammar.specs.declared.items.Binary.{Binary}
-use Rattle.grammar.specs.declared.items.Binary.the-variants.{And, Or, Add, Subtract, Multiply, Divide, Remainder, Equal, Less, LessOrEqual}
+use Rattle.grammar.specs.declared.items.Binary.the-variants.{And, Or, Add, Subtract, Multiply, Divide, Remainder, Equal, Less}
+use Rattle.grammar.specs.declared.items.Binary.the-variants.{LessOrEqual}
 use Rattle.grammar.specs.declared.items.Item.the-variants as Item
 use Rattle.grammar.specs.declared.typing.Typed.{Typed}
 use Rattle.grammar.specs.declared.typing.Typed.the-variants.{Known, IllTyped, TableFull, TooDeep}

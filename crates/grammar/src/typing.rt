@@ -9,7 +9,8 @@ ghost use lib.ListN.{length};
 ghost use Rattle.grammar.specs.Items.{operandOf, deepest};
 ghost use Rattle.grammar.specs.Draws.{drawsOf};
 ghost use Rattle.grammar.specs.Run.{gives, runOf};
-ghost use Rattle.grammar.specs.Typing.{numberOf, tooLong, tooDeep, kinded, kindedAs, isTyped, typedAs, kindedAt, variableKind, kindSteps, judged, typeOf, judgedOf};
+ghost use Rattle.grammar.specs.Typing.{numberOf, tooLong, tooDeep, kinded, kindedAs, isTyped, typedAs, kindedAt, variableKind};
+ghost use Rattle.grammar.specs.Typing.{kindSteps, judged, typeOf, judgedOf};
 ghost use Rattle.grammar.specs.Inner.{kindedWord, operandKind, codeOf, typedIn};
 
 pub enum Typed {
@@ -185,7 +186,11 @@ fn coded(most: usize, kind: u64, draws: u64) -> u64
 // One pass: the operands that wait, the most that did, and the draws. Only operands can make more wait than before.
 fn code_of_run(items: &[u64], kinds: &[u64]) -> u64
     requires { ⌜ length (now items) ≤ 64 ⌝ }
-    ensures { λ r. ⌜ r ≡ codeOf (judged (runOf (kindSteps (now (kinds .entry)) (now (items .entry))) []) (deepest (now (items .entry)) 0)) (drawsOf (now (items .entry))) ⌝ }
+    ensures {
+        λ r. ⌜ r
+        ≡ codeOf (judged (runOf (kindSteps (now (kinds .entry)) (now (items .entry))) []) (deepest (now (items .entry)) 0))
+        (drawsOf (now (items .entry))) ⌝
+    }
 {
     let mut depth: usize = 0;
     let mut integers: u64 = 0;

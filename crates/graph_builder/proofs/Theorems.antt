@@ -1,13 +1,13 @@
 -- What holds of building a graph.
-use Prim.Native.Nat.{ℕ, zero, suc, _+_, _<_, _≤_}
-use mathlib.Core.Path.{_≡_, refl, ap, _∙_}
+use Prim.Native.Nat.{ℕ, zero, suc, _+_, _<_}
+use mathlib.Core.Path.{_≡_, refl, sym, ap, subst, _∙_}
 use mathlib.Core.Logic.{_≢_, _↔_}
 use mathlib.Core.Bool.{Bool, true, false, cond}
 use mathlib.Core.List.{List, [], _∷_}
 use native.Mathlib.Omega.{arith}
 use borrow.Author.Tests.{eq-eqb, ne-eqb, ltb-true, lt-ltb}
 use lib.Dec.{eqb, ltb}
-use lib.ListN.{length, length-append}
+use lib.ListN.{length}
 use Rattle.laws.specs.Ladder.{unless}
 use Rattle.laws.specs.Below.{_and_, allBelow}
 use Rattle.laws.proofs.Ladder.{rung}
@@ -16,7 +16,7 @@ use Rattle.grammar.specs.declared.values.«Type».the-variants as Kind
 use Rattle.graph_tables.specs.Layout.{tableWords}
 use Rattle.graph_tables.specs.Answers.{doneNumber, placedNumber, varTypeNumber}
 use Rattle.graph_tables.specs.Refusals.{refusal}
-use Rattle.graph_tables.specs.Words.{Words, variableCount, processCount, transitionCount, kindAt, placeAt, keyOf, preOf, actionOf, postOf, keyWith}
+use Rattle.graph_tables.specs.Words.{Words, variableCount, processCount, transitionCount, kindAt, keyOf, preOf, actionOf, postOf, keyWith}
 use Rattle.graph_tables.specs.Formed.{wellFormed, countsFormed, startedOf, partsFormed}
 use Rattle.graph_tables.proofs.SoundLaws.{sound}
 use Rattle.graph_tables.proofs.KeptLaws.{apart, together}
@@ -24,17 +24,17 @@ use Rattle.graph_tables.specs.declared.answers.Done.{Done}
 use Rattle.graph_tables.specs.declared.answers.Done.the-variants as Done
 use Rattle.graph_tables.specs.declared.answers.VarType.{VarType}
 use Rattle.graph_tables.specs.declared.answers.VarType.the-variants as VarType
-use Rattle.graph_edits.specs.Lists.{listOf, placesOf, Before}
+use Rattle.graph_edits.specs.Lists.{listOf, Before}
 use Rattle.graph_edits.proofs.KeyLaws.{key-back, key-order}
-use Rattle.graph_edits.proofs.ListLaws.{list-length}
 use Rattle.graph_checks.specs.Checks.{varCheck, clockCheck, actionCheck, processCheck, resetCheck, effectCheck, sendCheck, receiveCheck, locationCheck, initialCheck, transitionCheck}
 use Rattle.graph_checks.proofs.CheckLaws.{unless-on}
 use Rattle.graph_builder.specs.Building.{Outcome, doneIf, placedIf, emptyOf, newVarOf, varTypeOf, newClockOf, newActionOf, newProcessOf, buildOf, addResetOf, addEffectOf, newSendOf, newReceiveOf, newTimedLocationOf, newInitialOf, addTransitionOf}
 use Rattle.graph_builder.specs.Chains.{Call, new-var, new-clock, new-action, new-process, add-reset, add-effect, new-send, new-receive, new-timed-location, new-initial-location, add-transition, after, answerOf, Fits, afterAll, AllFit}
-use Rattle.graph_builder.specs.Reading.{Graph, graphOf, emptyGraph, added, addedAll}
+use Rattle.graph_builder.specs.Reading.{graphOf, emptyGraph, added, addedAll}
 use Rattle.graph_builder.proofs.BuildingLaws.{done-if, placed-if}
 use Rattle.graph_builder.proofs.FormedCalls.{var-stays, clock-stays, action-stays, process-stays, reset-stays, effect-stays, send-stays, receive-stays, timed-location-stays, initial-stays, transition-stays}
 use Rattle.graph_builder.proofs.ReadingLaws.{done-reads, placed-reads, var-reads, clock-reads, process-reads, action-reads, send-reads, receive-reads, location-reads, initial-reads, reset-reads, effect-reads, transition-reads}
+use Rattle.graph_builder.proofs.KeptParts.{Kept, kept-same, added-keeps, NoneFewer, counts-kept}
 use Rattle.graph_builder.proofs.KnownChecks.{Known, var-known, clock-known, action-known, process-known, location-known, initial-known, reset-known, effect-known, send-known, receive-known, transition-known}
 
 -- a table begins with its six counts
@@ -177,37 +177,24 @@ build-exactly t = (onto, back)
         let k = has-process t .0 h in
         rw (k .0, lt-ltb 0 (processCount t) (k .1))
 
--- no call takes a process away
-never-fewer : (c : Call) (g : Graph) → length (g .processes) ≤ length (added c g .processes)
-never-fewer (new-var v) g = omega arith
-never-fewer new-clock g = omega arith
-never-fewer new-action g = omega arith
-never-fewer (new-process l) g = simp length-append (omega arith)
-never-fewer (add-reset a clock) g = omega arith
-never-fewer (add-effect a v ws) g = omega arith
-never-fewer (new-send m count) g = omega arith
-never-fewer (new-receive v) g = omega arith
-never-fewer (new-timed-location l) g = omega arith
-never-fewer (new-initial-location l) g = simp length-append (omega arith)
-never-fewer (add-transition pre a post guarded ws l) g = omega arith
-
-processes-stay : (t : List ℕ) (c : Call) → Fits c → processCount t ≤ processCount (after t c)
-processes-stay t c fit = by (answerOf t c) refl
+-- Whatever a call answers, variables, clocks, locations and processes are there after it as they were, under their numbers, and actions
+-- have the resets that they had.
+pub parts-stay : (t : List ℕ) (c : Call) → Fits c → Kept (graphOf t) (graphOf (after t c))
+parts-stay t c fit = by (answerOf t c) refl
   where
-    by : (n : ℕ) → answerOf t c ≡ n → processCount t ≤ processCount (after t c)
-    by zero e =
-        let u = after t c in
-        let more : length (placesOf u) ≡ length (added c (graphOf t) .processes) =
-        ap (λ (g : Graph). length (g .processes)) (reads-as t c fit e)
-        in
-        omega (arith, more, never-fewer c (graphOf t), list-length (placeAt t) (processCount t), list-length (placeAt u) (processCount u))
-    by (suc n) e = rw (refused-leaves t c (omega arith)) (omega arith)
+    by : (n : ℕ) → answerOf t c ≡ n → Kept (graphOf t) (graphOf (after t c))
+    by zero e = subst (Kept (graphOf t)) (sym (reads-as t c fit e)) (added-keeps c (graphOf t))
+    by (suc n) e = rw (refused-leaves t c (omega arith)) (kept-same (graphOf t))
+
+-- so there are as many or more of them
+pub none-fewer : (t : List ℕ) (c : Call) → Fits c → NoneFewer t (after t c)
+none-fewer t c fit = counts-kept t (after t c) (parts-stay t c fit)
 
 -- A table that is well formed for a run stays so under every call, whatever it answers.
 pub stays-runnable : (t : List ℕ) (c : Call) → Fits c → wellFormed t false ≡ true → wellFormed (after t c) false ≡ true
 stays-runnable t c fit h =
     let k = has-process t .0 h in
-    has-process (after t c) .1 (stays-formed t c fit (k .0), omega (arith, k .1, processes-stay t c fit))
+    has-process (after t c) .1 (stays-formed t c fit (k .0), omega (arith, k .1, none-fewer t c fit))
 
 pub chain-stays-runnable : (t : List ℕ) (calls : List Call) → AllFit calls
     → wellFormed t false ≡ true → wellFormed (afterAll t calls) false ≡ true

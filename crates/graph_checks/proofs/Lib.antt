@@ -2,3 +2,4 @@ pub mod CheckLaws
 pub mod TypedLaws
 pub mod ReadyActions
 pub mod ReadyParts
+pub mod Determined

@@ -18,7 +18,9 @@ use Rattle.graph_tables.specs.Formed.{wellFormed, effectDraws}
 use Rattle.graph_tables.specs.Sound.{Sound}
 use Rattle.graph_tables.proofs.SoundLaws.{sound}
 use Rattle.graph_tables.specs.declared.answers.Done.the-variants.{Accepted}
-use Rattle.graph_checks.specs.Checks.{eachBelow, plainCheck, roomForReset, resetCheck, roomForEffect, assignedCheck, actionEffectCheck, knownEffectCheck, effectCheck, typedCheck, expressionCheck, shallow, messageDraws, sendRoom, sendCheck, varKnown, receiveCheck}
+use Rattle.graph_checks.specs.Checks.{eachBelow, plainCheck, roomForReset, resetCheck, roomForEffect, assignedCheck}
+use Rattle.graph_checks.specs.Checks.{actionEffectCheck, knownEffectCheck, effectCheck, typedCheck, expressionCheck, shallow}
+use Rattle.graph_checks.specs.Checks.{messageDraws, sendRoom, sendCheck, varKnown, receiveCheck}
 use Rattle.graph_checks.proofs.CheckLaws.{unless-on, then-both, each-at}
 use Rattle.graph_checks.proofs.TypedLaws.{short, as-typed, is-typed}
 
@@ -94,7 +96,8 @@ effect-ready t a v ws e =
     }
 
 -- ---- sends
-pub message-short : (kinds : List ℕ) (m : ℕ → List ℕ) (n : ℕ) → eachBelow n (expressionCheck kinds m) ≡ Accepted → (i : ℕ) → i < n → length (m i) ≤ itemRoom
+pub message-short : (kinds : List ℕ) (m : ℕ → List ℕ) (n : ℕ) → eachBelow n (expressionCheck kinds m) ≡ Accepted → (i : ℕ) → i < n
+    → length (m i) ≤ itemRoom
 unfolding expressionCheck typedCheck
 message-short kinds m n h i l = short kinds (m i) (unless-on _ _ _ (each-at (expressionCheck kinds m) n i h l) .0)
 
@@ -119,7 +122,8 @@ send-ready t m count e =
       few = leb-true _ _ (few .0);
       expression = λ i l. (
         message-short (kindsOf t) m count (checks .0) i l,
-        is-typed (typeOf (kindsOf t) (m i)) (unless-on _ _ _ (unless-on _ _ _ (each-at (expressionCheck (kindsOf t) m) count i (checks .0) l) .1) .0)
+        is-typed (typeOf (kindsOf t) (m i))
+        (unless-on _ _ _ (unless-on _ _ _ (each-at (expressionCheck (kindsOf t) m) count i (checks .0) l) .1) .0)
             (all-at (shallow (kindsOf t) m) count i (deep .0) l),
       );
       draws = leb-true _ _ (draws .0);

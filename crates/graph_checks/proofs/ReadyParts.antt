@@ -16,7 +16,9 @@ use Rattle.laws.proofs.BelowLaws.{all-at}
 use Rattle.graph_edits.specs.Edits.{ClocksKnown, StartInside}
 use Rattle.graph_tables.specs.declared.answers.Done.{Done}
 use Rattle.graph_tables.specs.declared.answers.Done.the-variants.{Accepted}
-use Rattle.graph_checks.specs.Checks.{onTable, roomFor, varCheck, clockCheck, actionCheck, zeroAt, placeCheck, processCheck, clockKnown, clocksKnown, startsInside, allStartInside, limitsCheck, locationCheck, startCheck, initialCheck, endsCheck, guardCheck, ifGuarded, guardRoom, conditionsCheck, transitionCheck}
+use Rattle.graph_checks.specs.Checks.{onTable, roomFor, varCheck, clockCheck, actionCheck, zeroAt, placeCheck, processCheck}
+use Rattle.graph_checks.specs.Checks.{clockKnown, clocksKnown, startsInside, allStartInside, limitsCheck, locationCheck, startCheck}
+use Rattle.graph_checks.specs.Checks.{initialCheck, endsCheck, guardCheck, ifGuarded, guardRoom, conditionsCheck, transitionCheck}
 use Rattle.graph_checks.proofs.CheckLaws.{unless-on, then-both}
 use Rattle.graph_checks.proofs.TypedLaws.{as-typed, short}
 
@@ -105,7 +107,11 @@ guard-ready t ws h =
     let y = unless-on _ _ _ (x .1) in
     let z = unless-on _ _ _ (y .1) in
     let d = unless-on _ _ _ (z .1) in
-    record { short = short (kindsOf t) ws (x .0); typed = as-typed 0 (typeOf (kindsOf t) ws) (y .0) (d .0); no-draws = eqb-true (drawsOf ws) 0 (z .0) }
+    record {
+      short = short (kindsOf t) ws (x .0);
+      typed = as-typed 0 (typeOf (kindsOf t) ws) (y .0) (d .0);
+      no-draws = eqb-true (drawsOf ws) 0 (z .0);
+    }
 
 -- a guard that is there was checked
 guarded-check : (guarded : Bool) (check : Done) → guarded ≡ true → ifGuarded guarded check ≡ Accepted → check ≡ Accepted

@@ -10,12 +10,15 @@ use Rattle.time.specs.Time.{inRange}
 use Rattle.grammar.specs.Draws.{drawsOf}
 use Rattle.grammar.specs.Typing.{typeOf, kinded, kindedAs, tooDeep, tooLong}
 use Rattle.grammar.specs.declared.typing.Typed.{Typed}
-use Rattle.graph_tables.specs.Sizes.{processRoom, locationRoom, actionRoom, transitionRoom, variableRoom, clockRoom, limitRoom, effectRoom, resetRoom, drawRoom, messageRoom, sendKind, receiveKind}
+use Rattle.graph_tables.specs.Sizes.{processRoom, locationRoom, actionRoom, transitionRoom, variableRoom, clockRoom, limitRoom, effectRoom}
+use Rattle.graph_tables.specs.Sizes.{resetRoom, drawRoom, messageRoom}
+use Rattle.graph_tables.specs.Sizes.{booleanKind, sendKind, receiveKind}
 use Rattle.graph_tables.specs.Refusals.{refusal}
 use Rattle.graph_tables.specs.declared.handed.Limits.{Limits}
 use Rattle.graph_tables.specs.declared.handed.Vars.{Vars}
 use Rattle.graph_tables.specs.Handed.{handedClock, handedRange, handedVar}
-use Rattle.graph_tables.specs.Words.{variableCount, clockCount, locationCount, actionCount, processCount, transitionCount, kindAt, kindsOf, actionKind, resetCount, effectCount, epsilon, invariantCount, invariantGroup}
+use Rattle.graph_tables.specs.Words.{variableCount, clockCount, locationCount, actionCount, processCount, transitionCount, kindAt, kindsOf}
+use Rattle.graph_tables.specs.Words.{actionKind, resetCount, effectCount, epsilon, invariantCount, invariantGroup}
 use Rattle.graph_tables.specs.Formed.{wellFormed, zeroInside, effectDraws, actionKnown}
 use Rattle.graph_tables.specs.declared.answers.Done.{Done}
 use Rattle.graph_tables.specs.declared.answers.Done.the-variants.{Accepted, Refused}
@@ -88,7 +91,8 @@ locationCheck t l = onTable t (limitsCheck t l then roomFor (locationCount t) lo
 
 -- a location where a process starts: 9 if an invariant excludes time 0
 unfoldable pub startCheck : List ℕ → Limits → Done
-startCheck t l = unless (allStartInside l) (refusedBy 9) (roomFor (locationCount t) locationRoom (roomFor (processCount t) processRoom Accepted))
+startCheck t l =
+    unless (allStartInside l) (refusedBy 9) (roomFor (locationCount t) locationRoom (roomFor (processCount t) processRoom Accepted))
 
 unfoldable pub initialCheck : List ℕ → Limits → Done
 initialCheck t l = onTable t (limitsCheck t l then startCheck t l)
@@ -188,7 +192,7 @@ endsCheck t pre a post =
 unfoldable pub guardCheck : List ℕ → List ℕ → Done
 guardCheck t ws =
     unless (not (tooLong (typeOf (kindsOf t) ws))) (refusedBy 28)
-    (unless (kindedAs 0 (typeOf (kindsOf t) ws)) (refusedBy 6)
+    (unless (kindedAs booleanKind (typeOf (kindsOf t) ws)) (refusedBy 6)
     (unless (eqb (drawsOf ws) 0) (refusedBy 6)
     (unless (not (tooDeep (typeOf (kindsOf t) ws))) (refusedBy 28) Accepted)))
 

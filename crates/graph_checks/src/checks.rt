@@ -25,7 +25,12 @@ ghost use Rattle.graph_tables.specs.Words.{actionCount, actionKind, kindsOf, Wo
 ghost use Rattle.graph_tables.specs.Sound.{Sound};
 ghost use Rattle.graph_tables.specs.declared.answers.Done.the-variants.{Accepted};
 ghost use Rattle.graph_edits.specs.Edits.{chosen};
-ghost use Rattle.graph_checks.specs.Checks.{roomFor, eachBelow, varCheck, clockCheck, actionCheck, zeroAt, placeCheck, processCheck, clockKnown, clocksKnown, startsInside, allStartInside, limitsCheck, locationCheck, startCheck, initialCheck, plainCheck, roomForReset, resetCheck, roomForEffect, assignedCheck, actionEffectCheck, knownEffectCheck, effectCheck, typedCheck, expressionCheck, shallow, messageDraws, sendRoom, sendCheck, varKnown, receiveCheck, endsCheck, guardCheck, ifGuarded, guardRoom, conditionsCheck, transitionCheck};
+ghost use Rattle.graph_checks.specs.Checks.{roomFor, eachBelow, varCheck, clockCheck, actionCheck, zeroAt, placeCheck, processCheck};
+ghost use Rattle.graph_checks.specs.Checks.{clockKnown, clocksKnown, startsInside, allStartInside, limitsCheck, locationCheck};
+ghost use Rattle.graph_checks.specs.Checks.{startCheck, initialCheck, plainCheck, roomForReset, resetCheck, roomForEffect};
+ghost use Rattle.graph_checks.specs.Checks.{assignedCheck, actionEffectCheck, knownEffectCheck, effectCheck, typedCheck};
+ghost use Rattle.graph_checks.specs.Checks.{expressionCheck, shallow, messageDraws, sendRoom, sendCheck, varKnown, receiveCheck};
+ghost use Rattle.graph_checks.specs.Checks.{endsCheck, guardCheck, ifGuarded, guardRoom, conditionsCheck, transitionCheck};
 
 fn room_for(n: usize, size: usize) -> Done
     ensures { λ r. ⌜ r ≡ roomFor n size Accepted ⌝ }
@@ -338,7 +343,11 @@ fn message_check<'a>(
     count: usize,
 ) -> Done
     requires { ⌜ Sound (now t) ⌝ }
-    ensures { λ r. ⌜ r ≡ eachBelow count (expressionCheck (kindsOf (now (t .entry))) (chosen (now (w .entry)) (now (x .entry)) (now (y .entry)) (now (z .entry)))) ⌝ }
+    ensures {
+        λ r. ⌜ r
+        ≡ eachBelow count (expressionCheck (kindsOf (now (t .entry))) (chosen (now (w .entry)) (now (x .entry)) (now (y .entry))
+        (now (z .entry)))) ⌝
+    }
 {
     for i in 0..count {
         let check = expression_check(actions::choose(w, x, y, z, i), inner::kinds_of(t));
@@ -364,7 +373,10 @@ fn all_shallow<'a>(
     count: usize,
 ) -> bool
     requires { ⌜ Sound (now t) ⌝ }
-    ensures { λ r. ⌜ r ≡ allBelow count (shallow (kindsOf (now (t .entry))) (chosen (now (w .entry)) (now (x .entry)) (now (y .entry)) (now (z .entry)))) ⌝ }
+    ensures {
+        λ r. ⌜ r
+        ≡ allBelow count (shallow (kindsOf (now (t .entry))) (chosen (now (w .entry)) (now (x .entry)) (now (y .entry)) (now (z .entry)))) ⌝
+    }
 {
     for i in 0..count {
         if !is_shallow(actions::choose(w, x, y, z, i), inner::kinds_of(t)) {
@@ -393,7 +405,9 @@ fn send_room<'a>(
     z: &'a [u64],
     count: usize,
 ) -> Done
-    requires { ⌜ Sound (now t) × (count ≤ messageRoom) × ((i : ℕ) → i < count → length (chosen (now w) (now x) (now y) (now z) i) ≤ itemRoom) ⌝ }
+    requires {
+        ⌜ Sound (now t) × (count ≤ messageRoom) × ((i : ℕ) → i < count → length (chosen (now w) (now x) (now y) (now z) i) ≤ itemRoom) ⌝
+    }
     ensures { λ r. ⌜ r ≡ sendRoom (now (t .entry)) (chosen (now (w .entry)) (now (x .entry)) (now (y .entry)) (now (z .entry))) count ⌝ }
 {
     if !all_shallow(t, w, x, y, z, count) {
@@ -495,7 +509,7 @@ fn guard_check(t: &[u64], items: &[u64]) -> Done
     if typed.too_long() {
         return Done::Refused(Refusal::TableFull);
     }
-    if !typed.kinded_as(0) {
+    if !typed.kinded_as(layout::BOOLEAN) {
         return Done::Refused(Refusal::Type);
     }
     if draws::has_draws(items) {

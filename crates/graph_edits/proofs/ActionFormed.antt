@@ -12,12 +12,15 @@ use Rattle.laws.specs.Below.{sumBelow}
 use Rattle.laws.proofs.BelowLaws.{and-both, all-none, all-from, sum-none, sum-same}
 use Rattle.grammar.specs.Draws.{drawsOf}
 use Rattle.grammar.specs.Typing.{typeOf, isTyped}
-use Rattle.graph_tables.specs.Layout.{actionsCell, effectsStart, actionWidth, varsFrom, lengthsFrom, actionRow, resetsCell, effectsCell, varCell, lengthCell, effectSlot}
+use Rattle.graph_tables.specs.Layout.{actionsCell, effectsStart, actionWidth, varsFrom, lengthsFrom, actionRow, resetsCell, effectsCell}
+use Rattle.graph_tables.specs.Layout.{varCell, lengthCell, effectSlot}
 use Rattle.graph_tables.specs.Sizes.{actionRoom, drawRoom, messageRoom, itemRoom, plainKind, sendKind, receiveKind}
 use Rattle.graph_tables.specs.declared.handed.Vars.{Vars}
 use Rattle.graph_tables.specs.Handed.{handedVar}
-use Rattle.graph_tables.specs.Words.{Words, variableCount, actionCount, kindsOf, actionKind, resetCount, effectCount, effectVar, effectLength, effectItems}
-use Rattle.graph_tables.specs.Formed.{resetsFormed, effectDraws, plainFormed, expressionFormed, sendFormed, targetFormed, receiveFormed, actionFormed}
+use Rattle.graph_tables.specs.Words.{Words, variableCount, actionCount, kindsOf, actionKind, resetCount, effectCount, effectVar}
+use Rattle.graph_tables.specs.Words.{effectLength, effectItems}
+use Rattle.graph_tables.specs.Formed.{resetsFormed, effectDraws, plainFormed, expressionFormed, sendFormed, targetFormed, receiveFormed}
+use Rattle.graph_tables.specs.Formed.{actionFormed}
 use Rattle.graph_tables.proofs.KeptLaws.{Formed, Grown, ItemsKept, items-moved, is-typed-grown}
 use Rattle.graph_edits.specs.Edits.{actionPut, withAction, withExpressions, withSend, withTargets, withReceive}
 use Rattle.graph_edits.proofs.ExpressionLaws.{apart-row, apart-item, Message, message, targets-words, targets-other, targets-var}
@@ -60,7 +63,8 @@ module _ (x : List ℕ) (n kind count : ℕ) where
       getD-set-other x₃ actionsCell (resetsCell n) (n + 1) 0 (omega arith)
           ∙ getD-set-other x₂ (effectsCell n) (resetsCell n) count 0 (omega arith)
           ∙ getD-set-same x₁ (resetsCell n) 0 0 (simp length-set (omega arith)),
-      getD-set-other x₃ actionsCell (effectsCell n) (n + 1) 0 (omega arith) ∙ getD-set-same x₂ (effectsCell n) count 0 (simp length-set (omega arith)),
+      getD-set-other x₃ actionsCell (effectsCell n) (n + 1) 0 (omega arith)
+      ∙ getD-set-same x₂ (effectsCell n) count 0 (simp length-set (omega arith)),
     )
 
     -- t has n actions, and x has t's words but perhaps for those of action n
@@ -74,7 +78,10 @@ module _ (x : List ℕ) (n kind count : ℕ) where
           more = omega (arith, put-actions);
           few = omega (arith, put-actions);
           others = λ b l other. omega (arith, put-actions);
-          row = λ j l three out. put-other j (three, λ q. out 2 (omega arith) (omega arith), λ q. out 1 (omega arith) (omega arith), λ q. out 0 (omega arith) (omega arith)) ∙ row j l out;
+          row =
+              λ j l three out. put-other j
+              (three, λ q. out 2 (omega arith) (omega arith), λ q. out 1 (omega arith) (omega arith), λ q. out 0 (omega arith)
+              (omega arith)) ∙ row j l out;
           items = λ b e l other k h. put-other (effectSlot b e + k) (omega arith) ∙ items b e l other k h;
         }
 
@@ -89,7 +96,8 @@ action-formed t formed free =
     (rw (row .0, row .1, row .2) (and-both (and-both refl (all-none _)) (and-both refl (and-both (all-none _) (rw sum-none)))))
 
 -- ---- a send
-module _ (t : List ℕ) (m : ℕ → List ℕ) (count : ℕ) (formed : Formed t) (free : actionCount t < actionRoom) (few : count ≤ messageRoom) (each : (i : ℕ) → i < count → (length (m i) ≤ itemRoom) × (isTyped (typeOf (kindsOf t) (m i)) ≡ true)) where
+module _ (t : List ℕ) (m : ℕ → List ℕ) (count : ℕ) (formed : Formed t) (free : actionCount t < actionRoom) (few : count ≤ messageRoom)
+    (each : (i : ℕ) → i < count → (length (m i) ≤ itemRoom) × (isTyped (typeOf (kindsOf t) (m i)) ≡ true)) where
   abbrev sender : ℕ
   sender = actionCount t
 
@@ -119,7 +127,8 @@ module _ (t : List ℕ) (m : ℕ → List ℕ) (count : ℕ) (formed : Formed t)
       let at = effectSlot sender i in
       let same : effectLength sent sender i ≡ effectLength filled sender i = sent-long i l ∙ sym (so .long i l) in
       rw same
-      (items-moved filled sent at at itemRoom (effectLength filled sender i) (rw (so .long i l) (each i l .0)) (omega (arith, so .words)) (omega (arith, sent-around .words))
+      (items-moved filled sent at at itemRoom (effectLength filled sender i) (rw (so .long i l) (each i l .0)) (omega (arith, so .words))
+      (omega (arith, sent-around .words))
       (λ k h. put-other filled sender sendKind count (at + k) (omega arith)))
       ∙ so .items i l
 
@@ -144,10 +153,12 @@ module _ (t : List ℕ) (m : ℕ → List ℕ) (count : ℕ) (formed : Formed t)
   pub send-formed : sumBelow count (λ (i : ℕ). drawsOf (m i)) ≤ drawRoom → Formed (withSend t m count)
   send-formed draws =
       let same : actionCount filled ≡ sender = so .other actionsCell (λ i l. apart-row sender i actionsCell (omega arith) (omega arith)) in
-      subst (λ (n : ℕ). Formed (actionPut filled n sendKind count)) (sym same) (around-formed t sent sender free formed sent-around (sent-formed draws))
+      subst (λ (n : ℕ). Formed (actionPut filled n sendKind count)) (sym same)
+      (around-formed t sent sender free formed sent-around (sent-formed draws))
 
 -- ---- a receive
-module _ (t : List ℕ) (v : Vars) (formed : Formed t) (free : actionCount t < actionRoom) (few : v .count ≤ messageRoom) (each : (i : ℕ) → i < v .count → handedVar v i < variableCount t) where
+module _ (t : List ℕ) (v : Vars) (formed : Formed t) (free : actionCount t < actionRoom) (few : v .count ≤ messageRoom)
+    (each : (i : ℕ) → i < v .count → handedVar v i < variableCount t) where
   abbrev receiver : ℕ
   receiver = actionCount t
 
@@ -169,7 +180,9 @@ module _ (t : List ℕ) (v : Vars) (formed : Formed t) (free : actionCount t < a
   received-target : (i : ℕ) → i < v .count → targetFormed received receiver i ≡ true
   unfolding targetFormed
   received-target i l =
-      let var : effectVar received receiver i ≡ handedVar v i = put-other aimed receiver receiveKind (v .count) (varCell receiver i) (omega arith) ∙ targets-var t receiver v (v .count) (formed .words) free few i l in
+      let var : effectVar received receiver i ≡ handedVar v i =
+      put-other aimed receiver receiveKind (v .count) (varCell receiver i) (omega arith)
+      ∙ targets-var t receiver v (v .count) (formed .words) free few i l in
       let grown : Grown t received = around-grown t received receiver free formed received-around in
       rw var (lt-ltb (handedVar v i) (variableCount received) (omega (arith, each i l, grown .variables)))
 
@@ -178,9 +191,11 @@ module _ (t : List ℕ) (v : Vars) (formed : Formed t) (free : actionCount t < a
   received-formed =
       let row = put-row aimed receiver receiveKind (v .count) aimed-words free in
       rw (row .0, row .1, row .2)
-      (and-both refl (and-both refl (and-both (le-leb (v .count) messageRoom few) (all-from (targetFormed received receiver) (v .count) received-target))))
+      (and-both refl
+      (and-both refl (and-both (le-leb (v .count) messageRoom few) (all-from (targetFormed received receiver) (v .count) received-target))))
 
   pub receive-formed : Formed (withReceive t v)
   receive-formed =
       let same : actionCount aimed ≡ receiver = targets-other t receiver v (v .count) actionsCell (omega arith) in
-      subst (λ (n : ℕ). Formed (actionPut aimed n receiveKind (v .count))) (sym same) (around-formed t received receiver free formed received-around received-formed)
+      subst (λ (n : ℕ). Formed (actionPut aimed n receiveKind (v .count))) (sym same)
+      (around-formed t received receiver free formed received-around received-formed)

@@ -12,9 +12,11 @@ use Rattle.laws.specs.Below.{allBelow, sumBelow}
 use Rattle.laws.proofs.BelowLaws.{and-first, and-rest, and-both, all-more, sum-more}
 use Rattle.grammar.specs.Draws.{drawsOf}
 use Rattle.grammar.specs.Typing.{typeOf, typedAs}
-use Rattle.graph_tables.specs.Layout.{actionsCell, effectsStart, varsFrom, lengthsFrom, actionRow, resetsCell, effectsCell, resetCell, varCell, lengthCell, effectSlot}
+use Rattle.graph_tables.specs.Layout.{actionsCell, effectsStart, varsFrom, lengthsFrom, actionRow, resetsCell, effectsCell, resetCell}
+use Rattle.graph_tables.specs.Layout.{varCell, lengthCell, effectSlot}
 use Rattle.graph_tables.specs.Sizes.{actionRoom, effectRoom, resetRoom, drawRoom, itemRoom, plainKind}
-use Rattle.graph_tables.specs.Words.{Words, variableCount, actionCount, kindAt, kindsOf, actionKind, resetCount, effectCount, effectVar, effectLength, effectItems}
+use Rattle.graph_tables.specs.Words.{Words, variableCount, actionCount, kindAt, kindsOf, actionKind, resetCount, effectCount, effectVar}
+use Rattle.graph_tables.specs.Words.{effectLength, effectItems}
 use Rattle.graph_tables.specs.Formed.{resetsFormed, effectFormed, effectDraws, plainFormed, actionFormed}
 use Rattle.graph_tables.proofs.FormedLaws.{short-effects}
 use Rattle.graph_tables.proofs.KeptLaws.{Formed, Grown, ItemsKept, items-moved, typed-as-grown, resets-kept, effects-kept, draws-kept}
@@ -35,7 +37,8 @@ formed-plain : (t : List ℕ) (a : ℕ) → actionKind t a ≡ plainKind → pla
 unfolding actionFormed
 formed-plain t a kind h = rw kind h
 
-module _ (t : List ℕ) (a v : ℕ) (ws : List ℕ) (words : Words t) (low : a < actionRoom) (room : effectCount t a < effectRoom) (short : length ws ≤ itemRoom) where
+module _ (t : List ℕ) (a v : ℕ) (ws : List ℕ) (words : Words t) (low : a < actionRoom) (room : effectCount t a < effectRoom)
+    (short : length ws ≤ itemRoom) where
   abbrev n : ℕ
   n = effectCount t a
 
@@ -85,7 +88,8 @@ module _ (t : List ℕ) (a v : ℕ) (ws : List ℕ) (words : Words t) (low : a <
   same-items =
       let at = effectSlot a n in
       rw long
-      (items-moved x u at at itemRoom (effectLength x a n) (rw (put .long) short) (omega (arith, low, put .words)) (omega (arith, low, all-words))
+      (items-moved x u at at itemRoom (effectLength x a n) (rw (put .long) short) (omega (arith, low, put .words))
+      (omega (arith, low, all-words))
       (λ k l.
       getD-set-other y (effectsCell a) (at + k) (n + 1) 0 (omega (arith, low))
       ∙ getD-set-other x (varCell a n) (at + k) v 0 (omega (arith, low))))
@@ -99,7 +103,10 @@ module _ (t : List ℕ) (a v : ℕ) (ws : List ℕ) (words : Words t) (low : a <
         more = omega arith;
         few = omega arith;
         others = λ b l other. omega arith;
-        row = λ j l three out. row j (l, λ q. out (lengthsFrom + n) (omega arith) (omega arith), λ q. out (varsFrom + n) (omega arith) (omega arith), λ q. out 2 (omega arith) (omega arith));
+        row =
+            λ j l three out. row j
+            (l, λ q. out (lengthsFrom + n) (omega arith) (omega arith), λ q. out (varsFrom + n) (omega arith) (omega arith), λ q. out 2
+            (omega arith) (omega arith));
         items = λ b e l other. items b e (omega arith);
       }
 
@@ -114,9 +121,11 @@ module _ (t : List ℕ) (a v : ℕ) (ws : List ℕ) (words : Words t) (low : a <
     unfolding effectFormed
     new-formed typed =
         rw (same-items, variable, long ∙ put .long, grown .kinds v known)
-        (and-both (lt-ltb v (variableCount u) (omega (arith, grown .variables))) (and-both (le-leb _ _ short) (typed-as-grown grown (kindAt t v) ws typed)))
+        (and-both (lt-ltb v (variableCount u) (omega (arith, grown .variables)))
+        (and-both (le-leb _ _ short) (typed-as-grown grown (kindAt t v) ws typed)))
 
-    plain-kept : typedAs (kindAt t v) (typeOf (kindsOf t) ws) ≡ true → sumBelow n (effectDraws t a) + drawsOf ws ≤ drawRoom → plainFormed t a ≡ true → plainFormed u a ≡ true
+    plain-kept : typedAs (kindAt t v) (typeOf (kindsOf t) ws) ≡ true → sumBelow n (effectDraws t a) + drawsOf ws ≤ drawRoom
+        → plainFormed t a ≡ true → plainFormed u a ≡ true
     unfolding plainFormed effectDraws
     plain-kept typed draws h =
         let all : allBelow n (effectFormed t a) ≡ true = and-first _ _ (and-rest _ _ (and-rest _ _ h)) in
@@ -124,7 +133,8 @@ module _ (t : List ℕ) (a v : ℕ) (ws : List ℕ) (words : Words t) (low : a <
         let same : (e : ℕ) → e < n → effectLength u a e ≡ effectLength t a e = λ e l. row (lengthCell a e) (omega (arith, low)) in
         let each : (e : ℕ) → e < n → ItemsKept t u a e = λ e l. items a e (omega arith) in
         let vars : (e : ℕ) → e < n → effectVar u a e ≡ effectVar t a e = λ e l. row (varCell a e) (omega (arith, low)) in
-        let sum : sumBelow n (effectDraws u a) ≡ sumBelow n (effectDraws t a) = draws-kept grown a low n (omega arith) same each (short-effects t a n all) in
+        let sum : sumBelow n (effectDraws u a) ≡ sumBelow n (effectDraws t a) =
+        draws-kept grown a low n (omega arith) same each (short-effects t a n all) in
         rw count
         (and-both
         (resets-kept grown a
@@ -137,8 +147,11 @@ module _ (t : List ℕ) (a v : ℕ) (ws : List ℕ) (words : Words t) (low : a <
 
     whole : typedAs (kindAt t v) (typeOf (kindsOf t) ws) ≡ true → sumBelow n (effectDraws t a) + drawsOf ws ≤ drawRoom → Formed u
     whole typed draws =
-        around-formed t u a low formed (around (formed .counts .actions)) (formed-plain u a kind (plain-kept typed draws (plain-formed t a plain (formed .action a in-t))))
+        around-formed t u a low formed (around (formed .counts .actions))
+        (formed-plain u a kind (plain-kept typed draws (plain-formed t a plain (formed .action a in-t))))
 
-pub effect-formed : (t : List ℕ) (a v : ℕ) (ws : List ℕ) → Formed t → a < actionCount t → actionKind t a ≡ plainKind → effectCount t a < effectRoom → v < variableCount t → length ws ≤ itemRoom
-    → typedAs (kindAt t v) (typeOf (kindsOf t) ws) ≡ true → sumBelow (effectCount t a) (effectDraws t a) + drawsOf ws ≤ drawRoom → Formed (withEffect t a v ws)
+pub effect-formed : (t : List ℕ) (a v : ℕ) (ws : List ℕ) → Formed t → a < actionCount t → actionKind t a ≡ plainKind
+    → effectCount t a < effectRoom → v < variableCount t → length ws ≤ itemRoom
+    → typedAs (kindAt t v) (typeOf (kindsOf t) ws) ≡ true → sumBelow (effectCount t a) (effectDraws t a) + drawsOf ws ≤ drawRoom
+    → Formed (withEffect t a v ws)
 effect-formed t a v ws formed in-t plain room known short = whole t a v ws (formed .words) (omega arith) room short formed in-t plain known

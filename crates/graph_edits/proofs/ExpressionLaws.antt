@@ -30,7 +30,8 @@ module _ (a e : ℕ) where
   apart-row j l other = record { no-length = other; no-item = omega arith }
 
   -- an item of another expression, of this action or of another
-  pub apart-item : (b f k : ℕ) → a < actionRoom → e < effectRoom → k < itemRoom → actionRoom * f + b ≢ actionRoom * e + a → Apart a e (effectSlot b f + k)
+  pub apart-item : (b f k : ℕ) → a < actionRoom → e < effectRoom → k < itemRoom → actionRoom * f + b ≢ actionRoom * e + a
+      → Apart a e (effectSlot b f + k)
   apart-item b f k known few l other = record { no-length = omega arith; no-item = omega arith }
 
 -- ---- u is t but for expression e of action a
@@ -40,7 +41,8 @@ pub record Expression (t : List ℕ) (a e : ℕ) (ws u : List ℕ) : Type 0 wher
   pub long : effectLength u a e ≡ length ws
   pub items : effectItems u a e ≡ ws
 
-module _ (t : List ℕ) (a e : ℕ) (ws : List ℕ) (words : Words t) (known : a < actionRoom) (few : e < effectRoom) (short : length ws ≤ itemRoom) where
+module _ (t : List ℕ) (a e : ℕ) (ws : List ℕ) (words : Words t) (known : a < actionRoom) (few : e < effectRoom)
+    (short : length ws ≤ itemRoom) where
   room : effectSlot a e + length ws ≤ length (set t (lengthCell a e) (length ws))
   room = simp length-set (omega arith)
 
@@ -61,7 +63,8 @@ module _ (t : List ℕ) (a e : ℕ) (ws : List ℕ) (words : Words t) (known : a
   pub expression : Expression t a e ws (withExpression t a e ws)
   unfolding withExpression
   expression =
-      let long : effectLength (withExpression t a e ws) a e ≡ length ws = paste-before _ _ ws room _ (omega arith) ∙ getD-set-same t _ _ 0 (omega arith) in
+      let long : effectLength (withExpression t a e ws) a e ≡ length ws =
+      paste-before _ _ ws room _ (omega arith) ∙ getD-set-same t _ _ 0 (omega arith) in
       record {
         words = paste-length _ _ ws room ∙ length-set t _ _ ∙ words;
         other = written-other;
@@ -80,7 +83,8 @@ abbrev pub Short : (ℕ → List ℕ) → ℕ → Type 0
 Short m n = (i : ℕ) → i < n → length (m i) ≤ itemRoom
 
 -- one expression more
-module _ (t : List ℕ) (a : ℕ) (m : ℕ → List ℕ) (n : ℕ) (u w : List ℕ) (known : a < actionRoom) (few : n < messageRoom) (short : Short m (suc n)) (so : Message t a m n u) (new : Expression u a n (m n) w) where
+module _ (t : List ℕ) (a : ℕ) (m : ℕ → List ℕ) (n : ℕ) (u w : List ℕ) (known : a < actionRoom) (few : n < messageRoom)
+    (short : Short m (suc n)) (so : Message t a m n u) (new : Expression u a n (m n) w) where
   more-long : (i : ℕ) → i < suc n → effectLength w a i ≡ length (m i)
   more-long i l =
       ⊎-elim
@@ -96,7 +100,8 @@ module _ (t : List ℕ) (a : ℕ) (m : ℕ → List ℕ) (n : ℕ) (u w : List �
       let same : effectLength w a i ≡ effectLength u a i = more-long i l ∙ sym (so .long i k) in
       let room : effectLength u a i ≤ itemRoom = rw (so .long i k) (short i l) in
       let at = effectSlot a i in
-      rw same (items-moved u w at at itemRoom (effectLength u a i) room (omega arith) (omega arith) (λ j h. new .other (at + j) (apart-item a n a i j known (omega arith) h (omega arith))))
+      rw same (items-moved u w at at itemRoom (effectLength u a i) room (omega arith) (omega arith)
+      (λ j h. new .other (at + j) (apart-item a n a i j known (omega arith) h (omega arith))))
       ∙ so .items i k)
       (eq-or-lt-of-le (le-of-suc-le-suc l))
 
@@ -109,7 +114,8 @@ module _ (t : List ℕ) (a : ℕ) (m : ℕ → List ℕ) (n : ℕ) (u w : List �
         items = more-items;
       }
 
-pub message : (t : List ℕ) (a : ℕ) (m : ℕ → List ℕ) (n : ℕ) → Words t → a < actionRoom → n ≤ messageRoom → Short m n → Message t a m n (withExpressions t a m n)
+pub message : (t : List ℕ) (a : ℕ) (m : ℕ → List ℕ) (n : ℕ) → Words t → a < actionRoom → n ≤ messageRoom → Short m n
+    → Message t a m n (withExpressions t a m n)
 unfolding withExpressions
 message t a m zero words known few short =
     record { words = words; other = λ j apart. refl; long = λ i l. absurd (omega arith); items = λ i l. absurd (omega arith) }
@@ -131,7 +137,8 @@ module _ (t : List ℕ) (a : ℕ) (v : Vars) where
   targets-other (suc n) j other =
       getD-set-other (withTargets t a v n) _ j _ 0 (other n (omega arith)) ∙ targets-other n j (λ i l. other i (omega arith))
 
-  pub targets-var : (n : ℕ) → Words t → a < actionRoom → n ≤ messageRoom → (i : ℕ) → i < n → effectVar (withTargets t a v n) a i ≡ handedVar v i
+  pub targets-var : (n : ℕ) → Words t → a < actionRoom → n ≤ messageRoom → (i : ℕ) → i < n
+      → effectVar (withTargets t a v n) a i ≡ handedVar v i
   unfolding withTargets
   targets-var zero words known few i l = absurd (omega arith)
   targets-var (suc n) words known few i l =

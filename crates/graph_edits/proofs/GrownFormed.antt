@@ -10,13 +10,17 @@ use borrow.Author.Tests.{ltb-true, ltb-false, leb-true, eqb-true, eqb-false}
 use lib.Dec.{eqb, ltb}
 use lib.ListN.{getD}
 use Rattle.laws.proofs.BelowLaws.{and-first, and-rest}
-use Rattle.graph_tables.specs.Layout.{variablesCell, clocksCell, locationsCell, actionsCell, processesCell, transitionsCell, actionsStart, transitionsStart, effectsStart, actionWidth, transitionWidth, kindCell, valueCell, placeCell, invariantsCell, actionRow, transitionRow, groupStart, guardSlot}
+use Rattle.graph_tables.specs.Layout.{variablesCell, clocksCell, locationsCell, actionsCell, processesCell, transitionsCell, actionsStart}
+use Rattle.graph_tables.specs.Layout.{transitionsStart, effectsStart, actionWidth, transitionWidth, kindCell, valueCell, placeCell}
+use Rattle.graph_tables.specs.Layout.{invariantsCell, actionRow, transitionRow, groupStart, guardSlot}
 use Rattle.graph_tables.specs.Sizes.{actionRoom, limitRoom, effectRoom, itemRoom}
-use Rattle.graph_tables.specs.Words.{Words, variableCount, clockCount, locationCount, actionCount, processCount, transitionCount, valueAt, placeAt, invariantCount, keyOf, invariantGroup}
+use Rattle.graph_tables.specs.Words.{Words, variableCount, clockCount, locationCount, actionCount, processCount, transitionCount, valueAt}
+use Rattle.graph_tables.specs.Words.{placeAt, invariantCount, keyOf, invariantGroup}
 use Rattle.graph_tables.specs.Formed.{variableFormed, locationFormed, processFormed, actionFormed, keyBefore, transitionFormed}
 use Rattle.graph_tables.specs.Sound.{Counted}
 use Rattle.graph_tables.proofs.FormedLaws.{few-limits}
-use Rattle.graph_tables.proofs.KeptLaws.{Formed, Grown, Moved, GroupMoved, ItemsKept, variable-kept, location-kept, process-kept, action-kept, transition-kept}
+use Rattle.graph_tables.proofs.KeptLaws.{Formed, Grown, Moved, GroupMoved, ItemsKept, variable-kept, location-kept, process-kept}
+use Rattle.graph_tables.proofs.KeptLaws.{action-kept, transition-kept}
 
 -- ---- parts of t stand in u where they stood
 pub record LocationStands (t u : List ℕ) (l : ℕ) : Type 0 where
@@ -52,7 +56,8 @@ unfolding processFormed
 known-place t p h = ltb-true _ _ (and-first _ _ h)
 
 -- a test holds below m if it does below n, and from n on
-pub both-sides : (p : ℕ → Bool) (n m : ℕ) → ((i : ℕ) → i < n → p i ≡ true) → ((i : ℕ) → n ≤ i → i < m → p i ≡ true) → (i : ℕ) → i < m → p i ≡ true
+pub both-sides : (p : ℕ → Bool) (n m : ℕ) → ((i : ℕ) → i < n → p i ≡ true) → ((i : ℕ) → n ≤ i → i < m → p i ≡ true) → (i : ℕ) → i < m
+    → p i ≡ true
 both-sides p n m old new i l = by (ltb i n) refl
   where
     by : (b : Bool) → ltb i n ≡ b → p i ≡ true
@@ -63,8 +68,10 @@ module _ (t u : List ℕ) (formed : Formed t) (grown : Grown t u) where
   pub action-stands : (a : ℕ) → a < actionCount t → ActionStands t u a → actionFormed u a ≡ true
   action-stands a l s = action-kept grown a (omega arith) (s .row) (s .items) (formed .action a l)
 
-  pub transitions-stand : ((k : ℕ) → k < transitionCount t → TransitionStands t u k) → (k : ℕ) → k < transitionCount t → transitionFormed u k ≡ true
-  transitions-stand s k l = transition-kept grown k k (omega arith) (omega arith) (s k l .row) (s k l .group) (s k l .guard) (order k l) (formed .transition k l)
+  pub transitions-stand : ((k : ℕ) → k < transitionCount t → TransitionStands t u k) → (k : ℕ) → k < transitionCount t
+      → transitionFormed u k ≡ true
+  transitions-stand s k l =
+      transition-kept grown k k (omega arith) (omega arith) (s k l .row) (s k l .group) (s k l .guard) (order k l) (formed .transition k l)
     where
       key : (i : ℕ) → i < transitionCount t → keyOf u i ≡ keyOf t i
       key i m = simp add-zero at (s i m .row variablesCell (omega arith))
@@ -73,7 +80,8 @@ module _ (t u : List ℕ) (formed : Formed t) (grown : Grown t u) where
       order zero m = omega arith
       order (suc i) m = omega (arith, key i (omega arith), key (suc i) m, ordered t (suc i) (formed .transition (suc i) m))
 
-  pub process-stands : (p : ℕ) → placeAt u p ≡ placeAt t p → ((l : ℕ) → l < locationCount t → LocationStands t u l) → processFormed t p ≡ true → processFormed u p ≡ true
+  pub process-stands : (p : ℕ) → placeAt u p ≡ placeAt t p → ((l : ℕ) → l < locationCount t → LocationStands t u l)
+      → processFormed t p ≡ true → processFormed u p ≡ true
   process-stands p place s h =
       let l = placeAt t p in
       let known : l < locationCount t = known-place t p h in
@@ -91,8 +99,12 @@ module _ (t u : List ℕ) (formed : Formed t) (grown : Grown t u) where
       record {
         words = grown .grown-words;
         counts = counts;
-        variable = both-sides (variableFormed u) _ _ (λ v l. variable-kept t u v (grown .kinds v l) (s .values v l) (formed .variable v l)) variables;
-        location = both-sides (locationFormed u) _ _ (λ i l. location-kept grown i (s .locations i l .count) (s .locations i l .group) (formed .location i l)) locations;
+        variable =
+            both-sides (variableFormed u) _ _
+            (λ v l. variable-kept t u v (grown .kinds v l) (s .values v l) (formed .variable v l)) variables;
+        location =
+            both-sides (locationFormed u) _ _
+            (λ i l. location-kept grown i (s .locations i l .count) (s .locations i l .group) (formed .location i l)) locations;
         process = both-sides (processFormed u) _ _ (λ p l. process-stands p (s .places p l) (s .locations) (formed .process p l)) processes;
         action = actions;
         transition = transitions;
@@ -116,8 +128,11 @@ module _ (t u : List ℕ) (a : ℕ) (known : a < actionRoom) (formed : Formed t)
   back j l = around .row j (l .1) (omega arith) (omega arith)
 
   -- the other counts
-  pub same : (variableCount u ≡ variableCount t) × (clockCount u ≡ clockCount t) × (locationCount u ≡ locationCount t) × (processCount u ≡ processCount t) × (transitionCount u ≡ transitionCount t)
-  same = (front variablesCell (omega arith), front clocksCell (omega arith), front locationsCell (omega arith), front processesCell (omega arith), front transitionsCell (omega arith))
+  pub same : (variableCount u ≡ variableCount t) × (clockCount u ≡ clockCount t) × (locationCount u ≡ locationCount t) × (processCount u
+      ≡ processCount t) × (transitionCount u ≡ transitionCount t)
+  same =
+      (front variablesCell (omega arith), front clocksCell (omega arith), front locationsCell (omega arith), front processesCell
+      (omega arith), front transitionsCell (omega arith))
 
   pub around-grown : Grown t u
   around-grown =
@@ -135,7 +150,9 @@ module _ (t u : List ℕ) (a : ℕ) (known : a < actionRoom) (formed : Formed t)
   pub stands : Stands t u
   stands = record {
     values = λ v l. front (valueCell v) (omega arith);
-    locations = λ i l. record { count = front (invariantsCell i) (omega arith); group = λ j h. back (groupStart (invariantGroup i) + j) (omega arith) };
+    locations =
+        λ i l. record { count = front (invariantsCell i) (omega arith); group = λ j h. back (groupStart (invariantGroup i) + j)
+        (omega arith) };
     places = λ p l. front (placeCell p) (omega arith);
   }
 

@@ -16,6 +16,7 @@ use Rattle.time.specs.declared.Bound.{Bound}
 use Rattle.time.specs.declared.Bound.the-variants.{Included, Excluded, Unbounded}
 use Rattle.time.specs.declared.TimeRange.{TimeRange}
 use Rattle.graph_tables.specs.Layout.{clocksCell, groupWidth, groupStart, limitRow, lowerCell, upperCell}
+use Rattle.graph_tables.specs.Layout.{boundSpan, unboundedKind, includedKind, excludedKind}
 use Rattle.graph_tables.specs.Sizes.{limitRoom, groupRoom, word32}
 use Rattle.graph_tables.specs.declared.handed.Limits.{Limits}
 use Rattle.graph_tables.specs.Handed.{handedClock, handedRange}
@@ -39,7 +40,8 @@ sides {A} i p before at behind = by (decLt i p) (decLt p i)
 abbrev pub Outside : List ℕ → List ℕ → ℕ → ℕ → Type 0
 Outside t u lo hi = (j : ℕ) → (lo ≤ j → hi ≤ j) → getD u j 0 ≡ getD t j 0
 
-pub outside : (t u : List ℕ) (lo hi : ℕ) → ((j : ℕ) → j < lo → getD u j 0 ≡ getD t j 0) → ((j : ℕ) → hi ≤ j → getD u j 0 ≡ getD t j 0) → Outside t u lo hi
+pub outside : (t u : List ℕ) (lo hi : ℕ) → ((j : ℕ) → j < lo → getD u j 0 ≡ getD t j 0) → ((j : ℕ) → hi ≤ j → getD u j 0 ≡ getD t j 0)
+    → Outside t u lo hi
 outside t u lo hi before after j h = by (decLt j lo)
   where
     by : Dec (j < lo) → getD u j 0 ≡ getD t j 0
@@ -79,7 +81,8 @@ put t p end a b c l room = record {
     long : length gap ≡ length t
     long = gap-length t p end 3 l room
 
-    other : (j : ℕ) → (j ≡ p → ⊥) × (j ≡ p + 1 → ⊥) × (j ≡ p + 2 → ⊥) → getD (set (set (set gap p a) (p + 1) b) (p + 2) c) j 0 ≡ getD gap j 0
+    other : (j : ℕ) → (j ≡ p → ⊥) × (j ≡ p + 1 → ⊥) × (j ≡ p + 2 → ⊥)
+        → getD (set (set (set gap p a) (p + 1) b) (p + 2) c) j 0 ≡ getD gap j 0
     other j h =
         getD-set-other (set (set gap p a) (p + 1) b) (p + 2) j c 0 (h .2)
         ∙ getD-set-other (set gap p a) (p + 1) j b 0 (h .1)
@@ -185,7 +188,8 @@ module _ (t : List ℕ) (g : ℕ) (l : Limits) (words : Words t) (known : g < gr
       each-put (withLimits t g l n) (withLimits t g l (suc n)) g (spot n) n _ _ _ (spot-bound n) (next n few) P
       (limits-each P n (omega arith) (λ k q. h k (omega arith))) (h n (omega arith)) i (omega arith)
 
-  pub limits-ordered : (n : ℕ) → n ≤ limitRoom → (i : ℕ) → i + 1 < n → clockOf (withLimits t g l n) g i ≤ clockOf (withLimits t g l n) g (i + 1)
+  pub limits-ordered : (n : ℕ) → n ≤ limitRoom → (i : ℕ) → i + 1 < n
+      → clockOf (withLimits t g l n) g i ≤ clockOf (withLimits t g l n) g (i + 1)
   limits-ordered zero few i m = absurd (omega arith)
   limits-ordered (suc n) few i m =
       ordered (clockOf (withLimits t g l n) g) (clockOf (withLimits t g l (suc n)) g) n (handedClock l n) (spot n) (spot-bound n)
@@ -201,23 +205,23 @@ module _ (t : List ℕ) (g : ℕ) (l : Limits) (words : Words t) (known : g < gr
 pub bound-formed : (b : Bound) → BoundFits b → boundFormed (boundWord b) ≡ true
 unfolding boundFormed
 bound-formed (Included n) h =
-    let kind : (n * 4 + 1) % 4 ≡ 1 = omega arith in
-    let time : (n * 4 + 1) / 4 ≡ n = omega arith in
-    rw (ne-eqb (n * 4 + 1) 0 (omega arith), kind, time) (lt-ltb n word32 h)
+    let kind : (n * boundSpan + includedKind) % boundSpan ≡ includedKind = omega arith in
+    let time : (n * boundSpan + includedKind) / boundSpan ≡ n = omega arith in
+    rw (ne-eqb (n * boundSpan + includedKind) unboundedKind (omega arith), kind, time) (lt-ltb n word32 h)
 bound-formed (Excluded n) h =
-    let kind : (n * 4 + 2) % 4 ≡ 2 = omega arith in
-    let time : (n * 4 + 2) / 4 ≡ n = omega arith in
-    rw (ne-eqb (n * 4 + 2) 0 (omega arith), kind, time) (lt-ltb n word32 h)
+    let kind : (n * boundSpan + excludedKind) % boundSpan ≡ excludedKind = omega arith in
+    let time : (n * boundSpan + excludedKind) / boundSpan ≡ n = omega arith in
+    rw (ne-eqb (n * boundSpan + excludedKind) unboundedKind (omega arith), kind, time) (lt-ltb n word32 h)
 bound-formed Unbounded h = refl
 
 pub bound-back : (b : Bound) → boundOf (boundWord b) ≡ b
 bound-back (Included n) =
-    let kind : (n * 4 + 1) % 4 ≡ 1 = omega arith in
-    let time : (n * 4 + 1) / 4 ≡ n = omega arith in
+    let kind : (n * boundSpan + includedKind) % boundSpan ≡ includedKind = omega arith in
+    let time : (n * boundSpan + includedKind) / boundSpan ≡ n = omega arith in
     rw (kind, time)
 bound-back (Excluded n) =
-    let kind : (n * 4 + 2) % 4 ≡ 2 = omega arith in
-    let time : (n * 4 + 2) / 4 ≡ n = omega arith in
+    let kind : (n * boundSpan + excludedKind) % boundSpan ≡ excludedKind = omega arith in
+    let time : (n * boundSpan + excludedKind) / boundSpan ≡ n = omega arith in
     rw (kind, time)
 bound-back Unbounded = refl
 

@@ -12,22 +12,26 @@ use Rattle.laws.specs.Below.{_and_, allBelow}
 use Rattle.laws.proofs.BelowLaws.{and-both, all-kept}
 use Rattle.graph_tables.specs.Layout.{variablesCell, clocksCell, locationsCell, processesCell, kindCell, valueCell, placeCell}
 use Rattle.graph_tables.specs.Sizes.{processRoom, variableRoom, clockRoom, word32}
-use Rattle.graph_tables.specs.Words.{Words, variableCount, clockCount, locationCount, processCount, invariantCount, placeAt, kindAt, valueAt, invariantGroup}
+use Rattle.graph_tables.specs.Words.{Words, variableCount, clockCount, locationCount, processCount, invariantCount, placeAt, kindAt}
+use Rattle.graph_tables.specs.Words.{valueAt, invariantGroup}
 use Rattle.graph_tables.specs.Formed.{variableFormed, zeroInside, processFormed}
 use Rattle.graph_tables.proofs.KeptLaws.{Formed, zero-kept}
 use Rattle.graph_edits.specs.Edits.{withVar, withClock, withProcess}
 use Rattle.graph_edits.proofs.GrownFormed.{LocationStands, few-invariants}
-use Rattle.graph_edits.proofs.SpareFormed.{Agrees, spare-kind, spare-value, spare-place, set-agrees, locations-agree, agrees-formed, raised-formed}
+use Rattle.graph_edits.proofs.SpareFormed.{Agrees, spare-kind, spare-value, spare-place, set-agrees, locations-agree, agrees-formed}
+use Rattle.graph_edits.proofs.SpareFormed.{raised-formed}
 
 pub clock-formed : (t : List ℕ) → Formed t → clockCount t < clockRoom → Formed (withClock t)
 clock-formed t formed room =
     raised-formed t clocksCell (clockCount t) formed (omega arith) refl (omega arith)
     (λ e. absurd (omega arith)) (λ e. absurd (omega arith)) (λ e. absurd (omega arith)) (λ e. absurd (omega arith))
 
-pub process-formed : (t : List ℕ) (l : ℕ) → Formed t → processCount t < processRoom → l < locationCount t → allBelow (invariantCount t l) (zeroInside t (invariantGroup l)) ≡ true → Formed (withProcess t l)
+pub process-formed : (t : List ℕ) (l : ℕ) → Formed t → processCount t < processRoom → l < locationCount t
+    → allBelow (invariantCount t l) (zeroInside t (invariantGroup l)) ≡ true → Formed (withProcess t l)
 unfolding processFormed
 process-formed t l formed room known inside =
-    raised-formed u processesCell n (agrees-formed t u formed words agrees) (omega arith) (agrees processesCell (λ s. omega arith)) (omega arith)
+    raised-formed u processesCell n (agrees-formed t u formed words agrees) (omega arith) (agrees processesCell (λ s. omega arith))
+    (omega arith)
     (λ e. absurd (omega arith))
     (λ e. absurd (omega arith))
     (λ e. absurd (omega arith))
@@ -35,7 +39,8 @@ process-formed t l formed room known inside =
     rw (place, agrees locationsCell (λ s. omega arith), stands .count)
     (and-both (lt-ltb _ _ known)
     (all-kept (zeroInside t (invariantGroup l)) (zeroInside u (invariantGroup l)) (invariantCount t l)
-    (λ i m z. zero-kept t u (invariantGroup l) (invariantGroup l) (stands .group) i (omega (arith, few-invariants t l (formed .location l known))) ∙ z)
+    (λ i m z. zero-kept t u (invariantGroup l) (invariantGroup l) (stands .group) i
+    (omega (arith, few-invariants t l (formed .location l known))) ∙ z)
     inside)))
   where
     n : ℕ
@@ -57,10 +62,12 @@ process-formed t l formed room known inside =
     stands = locations-agree t u formed words agrees l known
 
 -- ---- a variable
-pub var-formed : (t : List ℕ) (kind value : ℕ) → Formed t → variableCount t < variableRoom → cond (eqb kind 0) (ltb value 2) (eqb kind 1 and ltb value word32) ≡ true → Formed (withVar t kind value)
+pub var-formed : (t : List ℕ) (kind value : ℕ) → Formed t → variableCount t < variableRoom
+    → cond (eqb kind 0) (ltb value 2) (eqb kind 1 and ltb value word32) ≡ true → Formed (withVar t kind value)
 unfolding variableFormed
 var-formed t kind value formed room fits =
-    raised-formed u variablesCell n (agrees-formed t u formed words agrees) (omega arith) (agrees variablesCell (λ s. omega arith)) (omega arith)
+    raised-formed u variablesCell n (agrees-formed t u formed words agrees) (omega arith) (agrees variablesCell (λ s. omega arith))
+    (omega arith)
     (λ e. rw (kind-at, value-at) fits) (λ e. absurd (omega arith)) (λ e. absurd (omega arith)) (λ e. absurd (omega arith))
   where
     n : ℕ
@@ -78,7 +85,9 @@ var-formed t kind value formed room fits =
         (set-agrees t t (kindCell n) kind (spare-kind t (formed .counts) room) (λ j used. refl))
 
     kind-at : kindAt u n ≡ kind
-    kind-at = getD-set-other (set t (kindCell n) kind) (valueCell n) (kindCell n) value 0 (λ e. omega arith) ∙ getD-set-same t (kindCell n) kind 0 (omega arith)
+    kind-at =
+        getD-set-other (set t (kindCell n) kind) (valueCell n) (kindCell n) value 0 (λ e. omega arith)
+        ∙ getD-set-same t (kindCell n) kind 0 (omega arith)
 
     value-at : valueAt u n ≡ value
     value-at = getD-set-same (set t (kindCell n) kind) (valueCell n) value 0 (simp length-set (omega arith))

@@ -19,7 +19,8 @@ place-from : (f : ℕ → ℕ) (k i m : ℕ) → Place f k i m (placeFrom f k i 
 place-from f k i zero = record { bound = omega arith; above = λ l. absurd (omega arith); below = λ j h l. absurd (omega arith) }
 place-from f k i (suc m) = by (ltb k (f i)) refl (place-from f k (i + 1) m)
   where
-    by : (b : Bool) → ltb k (f i) ≡ b → Place f k (i + 1) m (placeFrom f k (i + 1) m) → Place f k i (suc m) (cond b i (placeFrom f k (i + 1) m))
+    by : (b : Bool) → ltb k (f i) ≡ b → Place f k (i + 1) m (placeFrom f k (i + 1) m)
+        → Place f k i (suc m) (cond b i (placeFrom f k (i + 1) m))
     by true e r = record { bound = omega arith; above = λ l. ltb-true k (f i) e; below = λ j h l. absurd (omega arith) }
     by false e r = record {
       bound = omega arith;

@@ -78,7 +78,8 @@ module _ (t : List ℕ) (at : ℕ) (row : List ℕ) (k : at + length row ≤ len
 
   pub paste-items : take (length row) (drop at (pastedAt t at row)) ≡ row
   paste-items =
-      ap (λ (l : List ℕ). take (length row) l) (drop-at (take at t) (row ++ drop (at + length row) t) at (length-take-le at t (omega arith)))
+      ap (λ (l : List ℕ). take (length row) l)
+      (drop-at (take at t) (row ++ drop (at + length row) t) at (length-take-le at t (omega arith)))
       ∙ take-append-seam row (drop (at + length row) t)
 
 -- ---- n words that stand at another place of another list: so do the first m of them

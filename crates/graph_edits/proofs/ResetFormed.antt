@@ -70,12 +70,15 @@ module _ (t : List ℕ) (a clock : ℕ) (words : Words t) (low : a < actionRoom)
   count = getD-set-same (set gap lo clock) (resetsCell a) (n + 1) 0 (simp length-set (omega (arith, size)))
 
   pub here : resetAt u a p ≡ clock
-  here = getD-set-other (set gap lo clock) (resetsCell a) lo (n + 1) 0 (λ e. omega arith) ∙ getD-set-same gap lo clock 0 (omega (arith, size, least))
+  here =
+      getD-set-other (set gap lo clock) (resetsCell a) lo (n + 1) 0 (λ e. omega arith)
+      ∙ getD-set-same gap lo clock 0 (omega (arith, size, least))
 
   pub above : (i : ℕ) → p ≤ i → i < n → resetAt u a (i + 1) ≡ resetAt t a i
   above i l m =
       let e : resetCell a (i + 1) ≡ resetCell a i + 1 = omega arith in
-      rw e (other (resetCell a i + 1) (λ f. omega arith) (λ f. omega arith) ∙ gap-moved t lo hi 1 some fits (resetCell a i) (omega arith) (omega arith))
+      rw e (other (resetCell a i + 1) (λ f. omega arith) (λ f. omega arith)
+      ∙ gap-moved t lo hi 1 some fits (resetCell a i) (omega arith) (omega arith))
 
   -- ---- its parts
   -- a word before the action's resets
@@ -131,7 +134,8 @@ module _ (t : List ℕ) (a clock : ℕ) (words : Words t) (low : a < actionRoom)
         in-time : (i : ℕ) → i < n + 1 → resetAt u a i < clockCount t
         in-time i l =
             sides i p
-            (λ m. rw (before (resetCell a i) (omega arith) (λ e. omega arith)) (ltb-true _ _ (and-first _ _ (old i (omega (arith, least))))))
+            (λ m. rw (before (resetCell a i) (omega arith) (λ e. omega arith)) (ltb-true _ _
+            (and-first _ _ (old i (omega (arith, least))))))
             (λ e. rw (e, here) timed)
             (λ m.
             let e : i ≡ i - 1 + 1 = omega arith in
@@ -141,7 +145,8 @@ module _ (t : List ℕ) (a clock : ℕ) (words : Words t) (low : a < actionRoom)
         order zero l = omega arith
         order (suc i) l =
             rw (sym (add-one i))
-            (ordered (resetAt t a) (resetAt u a) n clock p least (place-above (resetAt t a) n clock) (place-below (resetAt t a) n clock) (λ j m. before _ (omega arith) (λ e. omega arith)) here above old-order i (omega arith))
+            (ordered (resetAt t a) (resetAt u a) n clock p least (place-above (resetAt t a) n clock) (place-below (resetAt t a) n clock)
+            (λ j m. before _ (omega arith) (λ e. omega arith)) here above old-order i (omega arith))
 
         each : (i : ℕ) → i < n + 1 → resetFormed u a i ≡ true
         each i l = rw (first clocksCell (omega arith)) (and-both (lt-ltb _ _ (in-time i l)) (le-leb _ _ (order i l)))
@@ -154,8 +159,11 @@ module _ (t : List ℕ) (a clock : ℕ) (words : Words t) (low : a < actionRoom)
         let all : allBelow m (effectFormed t a) ≡ true = and-first _ _ (and-rest _ _ (and-rest _ _ was-plain)) in
         let same : (e : ℕ) → e < m → effectLength u a e ≡ effectLength t a e = λ e l. after _ (omega arith) in
         let items : (e : ℕ) → e < m → ItemsKept t u a e = λ e l j k. after _ (omega arith) in
-        rw (before (effectsCell a) (omega arith) (λ e. omega arith), draws-kept grown a (omega arith) m few same items (short-effects t a m all))
-        (and-kept (λ r. resets) (and-kept (λ r. r) (and-kept (effects-kept grown a (omega arith) m few same items (λ e l. after _ (omega arith))) (λ r. r))) was-plain)
+        rw (before (effectsCell a) (omega arith) (λ e. omega arith), draws-kept grown a (omega arith) m few same items
+        (short-effects t a m all))
+        (and-kept (λ r. resets)
+        (and-kept (λ r. r)
+        (and-kept (effects-kept grown a (omega arith) m few same items (λ e l. after _ (omega arith))) (λ r. r))) was-plain)
 
     still-formed : actionFormed u a ≡ true
     unfolding actionFormed
@@ -164,6 +172,7 @@ module _ (t : List ℕ) (a clock : ℕ) (words : Words t) (low : a < actionRoom)
     whole : Formed u
     whole = around-formed t u a low formed (around (formed .counts .actions)) still-formed
 
-pub reset-formed : (t : List ℕ) (a clock : ℕ) → Formed t → a < actionCount t → actionKind t a ≡ plainKind → resetCount t a < resetRoom → clock < clockCount t
+pub reset-formed : (t : List ℕ) (a clock : ℕ) → Formed t → a < actionCount t → actionKind t a ≡ plainKind → resetCount t a < resetRoom
+    → clock < clockCount t
     → Formed (withReset t a clock)
 reset-formed t a clock formed known plain room timed = whole t a clock (formed .words) (omega arith) room formed known plain timed

@@ -7,7 +7,8 @@ use native.Mathlib.Omega.{arith}
 use native.Mathlib.Nat.{mul-suc, mul-le-mul, le-refl}
 use borrow.Author.Tests.{lt-ltb, le-ltb}
 use lib.ListN.{length, getD, take, drop, set, take-append-drop, List·getD-append}
-use lib.Seq.{paste, paste-zero, paste-suc, take-length, slice, slice-empty, slice-cons, take-suc, set-at, append-snoc, getD-take, length-take-le}
+use lib.Seq.{paste, paste-zero, paste-suc, take-length, slice, slice-empty, slice-cons, take-suc, set-at, append-snoc, getD-take}
+use lib.Seq.{length-take-le}
 use Rattle.graph_edits.specs.Rows.{placeFrom, gapOf, pastedAt}
 
 -- ---- a gap
@@ -17,10 +18,12 @@ gap-none t hi w = sym (rw slice-empty (take-append-drop (hi + w) t))
 -- the first n + 1 words before a rest
 opened : (t rest : List ℕ) (n : ℕ) → n < length t → take (n + 1) t ++ rest ≡ take n t ++ getD t n 0 ∷ rest
 opened t rest n h =
-    ap (λ (m : ℕ). take m t ++ rest) (add-one n) ∙ ap (λ (l : List ℕ). l ++ rest) (take-suc t n 0 h) ∙ append-snoc (take n t) (getD t n 0) rest
+    ap (λ (m : ℕ). take m t ++ rest) (add-one n) ∙ ap (λ (l : List ℕ). l ++ rest) (take-suc t n 0 h)
+    ∙ append-snoc (take n t) (getD t n 0) rest
 
 -- a turn's store
-gap-turn : (t : List ℕ) (j hi w : ℕ) → j < hi → hi + w ≤ length t → set (gapOf t (j + 1) hi w) (j + w) (getD (gapOf t (j + 1) hi w) j 0) ≡ gapOf t j hi w
+gap-turn : (t : List ℕ) (j hi w : ℕ) → j < hi → hi + w ≤ length t
+    → set (gapOf t (j + 1) hi w) (j + w) (getD (gapOf t (j + 1) hi w) j 0) ≡ gapOf t j hi w
 gap-turn t j hi w h k =
     rw (read, ap (λ (n : ℕ). take n t ++ rest) more ∙ opened t rest (j + w) (omega arith))
     (set-at (take (j + w) t) (getD t (j + w) 0) rest (getD t j 0) (j + w) (length-take-le (j + w) t (omega arith))
@@ -40,7 +43,8 @@ gap-turn t j hi w h k =
     cons : slice j hi t ≡ getD t j 0 ∷ slice (j + 1) hi t
     cons = slice-cons j hi t 0 h (omega arith) ∙ rw add-one
 
-pub gap-step : (t u : List ℕ) (i hi w : ℕ) → 0 < i → i ≤ hi → hi + w ≤ length t → u ≡ gapOf t i hi w → set u (i - 1 + w) (getD u (i - 1) 0) ≡ gapOf t (i - 1) hi w
+pub gap-step : (t u : List ℕ) (i hi w : ℕ) → 0 < i → i ≤ hi → hi + w ≤ length t → u ≡ gapOf t i hi w
+    → set u (i - 1 + w) (getD u (i - 1) 0) ≡ gapOf t (i - 1) hi w
 gap-step t u i hi w p h k e =
     let f : i ≡ i - 1 + 1 = omega arith in
     rw (e ∙ ap (λ (n : ℕ). gapOf t n hi w) f) (gap-turn t (i - 1) hi w (omega arith) k)
@@ -54,7 +58,9 @@ pub paste-step : (t u : List ℕ) (at : ℕ) (row : List ℕ) (k : ℕ) → at +
 paste-step t u at row k h l e = rw (e, add-one k) (paste-suc t at row k 0 h l)
 
 pub paste-all : (t : List ℕ) (at : ℕ) (row : List ℕ) → paste t at row (length row) ≡ pastedAt t at row
-paste-all t at row = ap (λ (r : List ℕ). take at t ++ r ++ drop (at + length row) t) (take-length row) ∙ append-assoc (take at t) row (drop (at + length row) t)
+paste-all t at row =
+    ap (λ (r : List ℕ). take at t ++ r ++ drop (at + length row) t) (take-length row)
+    ∙ append-assoc (take at t) row (drop (at + length row) t)
 
 -- ---- a place
 -- a row among others has its room

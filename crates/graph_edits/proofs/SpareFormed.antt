@@ -9,13 +9,17 @@ use borrow.Author.Tests.{eqb-true, eqb-false}
 use lib.Dec.{eqb}
 use lib.ListN.{getD, set, length-set}
 use lib.Seq.{getD-set-same, getD-set-other}
-use Rattle.graph_tables.specs.Layout.{variablesCell, clocksCell, locationsCell, actionsCell, processesCell, transitionsCell, kindsStart, actionWidth, transitionWidth, groupWidth, kindCell, valueCell, placeCell, invariantsCell, actionRow, transitionRow, groupStart, guardSlot, effectSlot}
+use Rattle.graph_tables.specs.Layout.{variablesCell, clocksCell, locationsCell, actionsCell, processesCell, transitionsCell, kindsStart}
+use Rattle.graph_tables.specs.Layout.{actionWidth, transitionWidth, groupWidth, kindCell, valueCell, placeCell, invariantsCell, actionRow}
+use Rattle.graph_tables.specs.Layout.{transitionRow, groupStart, guardSlot, effectSlot}
 use Rattle.graph_tables.specs.Sizes.{processRoom, locationRoom, actionRoom, variableRoom, clockRoom, effectRoom, itemRoom}
-use Rattle.graph_tables.specs.Words.{Words, variableCount, clockCount, locationCount, actionCount, processCount, transitionCount, invariantGroup}
+use Rattle.graph_tables.specs.Words.{Words, variableCount, clockCount, locationCount, actionCount, processCount, transitionCount}
+use Rattle.graph_tables.specs.Words.{invariantGroup}
 use Rattle.graph_tables.specs.Formed.{variableFormed, locationFormed, processFormed, actionFormed}
 use Rattle.graph_tables.specs.Sound.{Counted}
 use Rattle.graph_tables.proofs.KeptLaws.{Formed, Grown, variable-kept, location-kept, action-kept}
-use Rattle.graph_edits.proofs.GrownFormed.{LocationStands, Stands, both-sides, action-stands, transitions-stand, process-stands, grown-formed}
+use Rattle.graph_edits.proofs.GrownFormed.{LocationStands, Stands, both-sides, action-stands, transitions-stand, process-stands}
+use Rattle.graph_edits.proofs.GrownFormed.{grown-formed}
 
 -- ---- word i is used by no part of t
 pub record Spare (t : List ℕ) (i : ℕ) : Type 0 where
@@ -87,7 +91,9 @@ module _ (t u : List ℕ) (formed : Formed t) (words : Words u) (agrees : Agrees
         locations = omega arith;
         actions = omega arith;
       } in
-      let stands : Stands t u = record { values = λ i m. agrees _ (λ s. s .values i m refl); locations = locations-agree; places = λ i m. agrees _ (λ s. s .places i m refl) } in
+      let stands : Stands t u =
+      record { values = λ i m. agrees _ (λ s. s .values i m refl); locations = locations-agree; places = λ i m. agrees _
+      (λ s. s .places i m refl) } in
       grown-formed t u formed grown (omega arith) stands
       (λ i n m. absurd (omega arith))
       (λ i n m. absurd (omega arith))
@@ -146,14 +152,20 @@ module _ (t : List ℕ) (c n : ℕ) (formed : Formed t) (known : c < transitions
       by (inl w) = let e : v ≡ n = omega arith in rw e (h (w .0))
       by (inr e) = absurd (omega arith)
 
-  pub raised-formed : Room c n → (c ≡ variablesCell → variableFormed t n ≡ true) → (c ≡ locationsCell → locationFormed t n ≡ true) → (c ≡ actionsCell → actionFormed t n ≡ true)
+  pub raised-formed : Room c n → (c ≡ variablesCell → variableFormed t n ≡ true) → (c ≡ locationsCell → locationFormed t n ≡ true)
+      → (c ≡ actionsCell → actionFormed t n ≡ true)
       → (c ≡ processesCell → processFormed t n ≡ true) → Formed u
   raised-formed room variable location action process =
-      let v : (variableCount t ≤ variableCount u) × (variableCount u ≤ variableRoom) = count-raised variablesCell variableRoom (formed .counts .variables) (room .variables) in
-      let k : (clockCount t ≤ clockCount u) × (clockCount u ≤ clockRoom) = count-raised clocksCell clockRoom (formed .counts .clocks) (room .clocks) in
-      let l : (locationCount t ≤ locationCount u) × (locationCount u ≤ locationRoom) = count-raised locationsCell locationRoom (formed .counts .locations) (room .locations) in
-      let a : (actionCount t ≤ actionCount u) × (actionCount u ≤ actionRoom) = count-raised actionsCell actionRoom (formed .counts .actions) (room .actions) in
-      let p : (processCount t ≤ processCount u) × (processCount u ≤ processRoom) = count-raised processesCell processRoom (formed .counts .processes) (room .processes) in
+      let v : (variableCount t ≤ variableCount u) × (variableCount u ≤ variableRoom) =
+      count-raised variablesCell variableRoom (formed .counts .variables) (room .variables) in
+      let k : (clockCount t ≤ clockCount u) × (clockCount u ≤ clockRoom) =
+      count-raised clocksCell clockRoom (formed .counts .clocks) (room .clocks) in
+      let l : (locationCount t ≤ locationCount u) × (locationCount u ≤ locationRoom) =
+      count-raised locationsCell locationRoom (formed .counts .locations) (room .locations) in
+      let a : (actionCount t ≤ actionCount u) × (actionCount u ≤ actionRoom) =
+      count-raised actionsCell actionRoom (formed .counts .actions) (room .actions) in
+      let p : (processCount t ≤ processCount u) × (processCount u ≤ processRoom) =
+      count-raised processesCell processRoom (formed .counts .processes) (room .processes) in
       let x : transitionCount u ≡ transitionCount t = same transitionsCell (omega arith) in
       let grown : Grown t u = record {
         words = formed .words;
@@ -166,10 +178,13 @@ module _ (t : List ℕ) (c n : ℕ) (formed : Formed t) (known : c < transitions
         actions = a .0;
       } in
       let place : (i : ℕ) → LocationStands t u i = λ i. record { count = same _ (omega arith); group = λ j m. same _ (omega arith) } in
-      grown-formed t u formed grown (omega arith) (record { values = λ i m. same _ (omega arith); locations = λ i m. place i; places = λ i m. same _ (omega arith) })
-      (λ i m h. variable-kept t u i (same _ (omega arith)) (same _ (omega arith)) (new-part variablesCell (variableFormed t) variable i m h))
+      grown-formed t u formed grown (omega arith)
+      (record { values = λ i m. same _ (omega arith); locations = λ i m. place i; places = λ i m. same _ (omega arith) })
+      (λ i m h. variable-kept t u i (same _ (omega arith)) (same _ (omega arith))
+      (new-part variablesCell (variableFormed t) variable i m h))
       (λ i m h. location-kept grown i (place i .count) (place i .group) (new-part locationsCell (locationFormed t) location i m h))
-      (λ i m h. process-stands t u formed grown i (same _ (omega arith)) (λ j o. place j) (new-part processesCell (processFormed t) process i m h))
+      (λ i m h. process-stands t u formed grown i (same _ (omega arith)) (λ j o. place j)
+      (new-part processesCell (processFormed t) process i m h))
       (λ i m. action-kept grown i (omega arith) (λ j o. same _ (omega arith)) (λ e o j q. same _ (omega arith))
       (both-sides (actionFormed t) (actionCount t) (actionCount u) (formed .action) (new-part actionsCell (actionFormed t) action) i m))
       (λ i m.

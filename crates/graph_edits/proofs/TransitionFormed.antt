@@ -13,18 +13,25 @@ use Rattle.laws.specs.Below.{_and_}
 use Rattle.laws.proofs.BelowLaws.{and-first, and-both}
 use Rattle.grammar.specs.Draws.{drawsOf}
 use Rattle.grammar.specs.Typing.{typeOf, typedAs}
-use Rattle.graph_tables.specs.Layout.{variablesCell, clocksCell, locationsCell, actionsCell, processesCell, transitionsCell, limitsStart, effectsStart, transitionWidth, groupWidth, kindCell, valueCell, placeCell, invariantsCell, transitionRow, guardCell, limitsCell, groupStart, guardSlot}
+use Rattle.graph_tables.specs.Layout.{variablesCell, clocksCell, locationsCell, actionsCell, processesCell, transitionsCell, limitsStart}
+use Rattle.graph_tables.specs.Layout.{effectsStart, transitionWidth, groupWidth, kindCell, valueCell, placeCell, invariantsCell}
+use Rattle.graph_tables.specs.Layout.{transitionRow, guardCell, limitsCell, groupStart, guardSlot}
 use Rattle.graph_tables.specs.Sizes.{transitionRoom, limitRoom, itemRoom}
 use Rattle.graph_tables.specs.declared.handed.Limits.{Limits}
-use Rattle.graph_tables.specs.Words.{Words, variableCount, locationCount, actionCount, processCount, transitionCount, kindsOf, placeAt, invariantCount, keyOf, guardLength, limitCount, guardItems, invariantGroup}
+use Rattle.graph_tables.specs.Words.{Words, variableCount, locationCount, actionCount, processCount, transitionCount, kindsOf, placeAt}
+use Rattle.graph_tables.specs.Words.{invariantCount, keyOf, guardLength, limitCount, guardItems, invariantGroup}
 use Rattle.graph_tables.specs.Formed.{limitsFormed, locationFormed, processFormed, keyFormed, keyBefore, guardFormed, transitionFormed}
 use Rattle.graph_tables.proofs.FormedLaws.{few-limits}
-use Rattle.graph_tables.proofs.KeptLaws.{Formed, Grown, Moved, GroupMoved, variable-kept, limits-kept, location-kept, process-kept, action-kept, typed-as-grown, key-kept, transition-kept}
+use Rattle.graph_tables.proofs.KeptLaws.{Formed, Grown, Moved, GroupMoved, variable-kept, limits-kept, location-kept, process-kept}
+use Rattle.graph_tables.proofs.KeptLaws.{action-kept, typed-as-grown, key-kept, transition-kept}
 use Rattle.graph_edits.specs.Rows.{gapOf}
-use Rattle.graph_edits.specs.Edits.{LimitsFit, withRow, withGroup, withGuard, transitionAt, transitionPlace, withTransition, ClocksKnown}
-use Rattle.graph_edits.proofs.ReadLaws.{gap-length, gap-before, gap-moved, gap-after, paste-length, paste-before, paste-after, paste-items, moved-items}
+use Rattle.graph_edits.specs.Edits.{LimitsFit, withRow, withGroup, withGuard, transitionAt, transitionPlace, withTransition}
+use Rattle.graph_edits.specs.Edits.{ClocksKnown}
+use Rattle.graph_edits.proofs.ReadLaws.{gap-length, gap-before, gap-moved, gap-after, paste-length, paste-before, paste-after}
+use Rattle.graph_edits.proofs.ReadLaws.{paste-items, moved-items}
 use Rattle.graph_edits.proofs.PlaceLaws.{place-bound, place-above, place-below}
-use Rattle.graph_edits.proofs.LimitLaws.{Outside, Put, sides, outside, put, ordered, limits-length, limits-before, limits-after, limits-formed, clocks-same}
+use Rattle.graph_edits.proofs.LimitLaws.{Outside, Put, sides, outside, put, ordered, limits-length, limits-before, limits-after}
+use Rattle.graph_edits.proofs.LimitLaws.{limits-formed, clocks-same}
 use Rattle.graph_edits.proofs.LocationFormed.{grown-same, keys-ordered}
 
 -- ---- row p of n, with the rows from there on moved up
@@ -34,7 +41,8 @@ unfolding withRow
 row-put t p n key items limits words least room = put t (transitionRow p) (transitionRow n) key items limits (omega arith) (omega arith)
 
 -- ---- limit group p of n, with the groups from there on moved up
-module _ (t : List ℕ) (p n : ℕ) (l : Limits) (words : Words t) (least : p ≤ n) (room : n < transitionRoom) (few : l .count ≤ limitRoom) where
+module _ (t : List ℕ) (p n : ℕ) (l : Limits) (words : Words t) (least : p ≤ n) (room : n < transitionRoom)
+    (few : l .count ≤ limitRoom) where
   abbrev opened : List ℕ
   opened = gapOf t (groupStart p) (groupStart n) groupWidth
 
@@ -60,15 +68,19 @@ module _ (t : List ℕ) (p n : ℕ) (l : Limits) (words : Words t) (least : p �
 
   group-moved : (j : ℕ) → groupStart p ≤ j → j < groupStart n → getD (withGroup t p n l) (j + groupWidth) 0 ≡ getD t j 0
   unfolding withGroup
-  group-moved j h k = limits-after opened p l opened-words (omega arith) (l .count) few (j + groupWidth) (omega arith) ∙ gap-moved t _ _ groupWidth low high j h k
+  group-moved j h k =
+      limits-after opened p l opened-words (omega arith) (l .count) few (j + groupWidth) (omega arith)
+      ∙ gap-moved t _ _ groupWidth low high j h k
 
   group-formed : ClocksKnown t l → LimitsFit l → limitsFormed (withGroup t p n l) p (l .count) ≡ true
   unfolding withGroup
   group-formed clocks fit =
-      limits-formed opened p l opened-words (omega arith) few (clocks-same t opened l (gap-before t _ _ groupWidth low high clocksCell (omega arith)) clocks) fit
+      limits-formed opened p l opened-words (omega arith) few
+      (clocks-same t opened l (gap-before t _ _ groupWidth low high clocksCell (omega arith)) clocks) fit
 
 -- ---- guard p of n, with the guards from there on moved up
-module _ (t : List ℕ) (p n : ℕ) (ws : List ℕ) (words : Words t) (least : p ≤ n) (room : n < transitionRoom) (short : length ws ≤ itemRoom) where
+module _ (t : List ℕ) (p n : ℕ) (ws : List ℕ) (words : Words t) (least : p ≤ n) (room : n < transitionRoom)
+    (short : length ws ≤ itemRoom) where
   abbrev parted : List ℕ
   parted = gapOf t (guardSlot p) (guardSlot n) itemRoom
 
@@ -112,7 +124,8 @@ guard-sound : (u : List ℕ) (k : ℕ) (ws : List ℕ) → guardLength u k ≡ l
 unfolding guardFormed
 guard-sound u k ws count items short sound = rw (items, count) (by (eqb (length ws) 0) refl)
   where
-    by : (b : Bool) → eqb (length ws) 0 ≡ b → cond b true (leb (length ws) itemRoom and typedAs 0 (typeOf (kindsOf u) ws) and eqb (drawsOf ws) 0) ≡ true
+    by : (b : Bool) → eqb (length ws) 0 ≡ b
+        → cond b true (leb (length ws) itemRoom and typedAs 0 (typeOf (kindsOf u) ws) and eqb (drawsOf ws) 0) ≡ true
     by true e = refl
     by false e =
         let some : 0 < length ws = omega (arith, eqb-false) in
@@ -120,7 +133,8 @@ guard-sound u k ws count items short sound = rw (items, count) (by (eqb (length 
 
 -- ---- t, which is well formed and has n transitions, with one more at place p
 module _ (t : List ℕ) (p n key : ℕ) (ws : List ℕ) (l : Limits) (f : Formed t)
-    (total : transitionCount t ≡ n) (least : p ≤ n) (room : n < transitionRoom) (few : l .count ≤ limitRoom) (short : length ws ≤ itemRoom) where
+    (total : transitionCount t ≡ n) (least : p ≤ n) (room : n < transitionRoom) (few : l .count ≤ limitRoom)
+    (short : length ws ≤ itemRoom) where
   abbrev rowed : List ℕ
   rowed = withRow t p n key (length ws) (l .count)
 
@@ -161,12 +175,17 @@ module _ (t : List ℕ) (p n key : ℕ) (ws : List ℕ) (l : Limits) (f : Formed
   pub limits : (j : ℕ) → (j ≡ transitionsCell → ⊥) × (guardSlot p ≤ j → effectsStart ≤ j) → getD after j 0 ≡ getD limited j 0
   limits j h = guards j (h .0) ∙ guard-outside limited p n ws limited-words least room short j (λ m. omega (arith, h .1 m))
 
-  rows : (j : ℕ) → (j ≡ transitionsCell → ⊥) × (guardSlot p ≤ j → effectsStart ≤ j) × (groupStart p ≤ j → groupStart transitionRoom ≤ j) → getD after j 0 ≡ getD rowed j 0
+  rows : (j : ℕ) → (j ≡ transitionsCell → ⊥) × (guardSlot p ≤ j → effectsStart ≤ j) × (groupStart p ≤ j → groupStart transitionRoom ≤ j)
+      → getD after j 0 ≡ getD rowed j 0
   rows j h = limits j (h .0, h .1) ∙ group-outside rowed p n l rowed-words least room few j (λ m. omega (arith, h .2 m))
 
-  pub put-same : (j : ℕ) → (j ≡ transitionsCell → ⊥) × (guardSlot p ≤ j → effectsStart ≤ j) × (groupStart p ≤ j → groupStart transitionRoom ≤ j) × (transitionRow p ≤ j → limitsStart ≤ j)
+  pub put-same : (j : ℕ)
+      → (j ≡ transitionsCell → ⊥) × (guardSlot p ≤ j → effectsStart ≤ j) × (groupStart p ≤ j → groupStart transitionRoom ≤ j)
+      × (transitionRow p ≤ j → limitsStart ≤ j)
       → getD after j 0 ≡ getD t j 0
-  put-same j h = rows j (h .0, h .1, h .2) ∙ outside t rowed (transitionRow p) (transitionRow n + transitionWidth) (row .before) (row .after) j (λ m. omega (arith, h .3 m))
+  put-same j h =
+      rows j (h .0, h .1, h .2)
+      ∙ outside t rowed (transitionRow p) (transitionRow n + transitionWidth) (row .before) (row .after) j (λ m. omega (arith, h .3 m))
 
   -- transition k, from the place on, is transition k + 1
   module _ (k m : ℕ) (e : m ≡ k + 1) (from : p ≤ k) (to : k < n) where
@@ -205,7 +224,8 @@ module _ (t : List ℕ) (p n key : ℕ) (ws : List ℕ) (l : Limits) (f : Formed
   pub put-items : guardItems after p ≡ ws
   put-items =
       rw put-guard
-      (moved-items guarded after (guardSlot p) (guardSlot p) itemRoom (length ws) short (omega (arith, guarded-words)) (omega (arith, put-words))
+      (moved-items guarded after (guardSlot p) (guardSlot p) itemRoom (length ws) short (omega (arith, guarded-words))
+      (omega (arith, put-words))
       (λ j h. guards _ (omega arith))
       ∙ guard-items limited p n ws limited-words least room short)
 
@@ -221,13 +241,16 @@ module _ (t : List ℕ) (p n key : ℕ) (ws : List ℕ) (l : Limits) (f : Formed
           (omega (arith, limits locationsCell (omega arith))) (λ j h. limits j (omega arith))
 
   grown : Grown t after
-  grown = grown-same t after (f .words) put-words (f .counts .variables) (omega (arith, put-same locationsCell (omega arith))) (λ j h. put-same j (omega arith))
+  grown =
+      grown-same t after (f .words) put-words (f .counts .variables) (omega (arith, put-same locationsCell (omega arith)))
+      (λ j h. put-same j (omega arith))
 
   process : (q : ℕ) → q < processCount t → processFormed after q ≡ true
   unfolding processFormed locationFormed
   process q h =
       let known : placeAt t q < locationCount t = ltb-true _ _ (and-first _ _ (f .process q h)) in
-      process-kept grown q (put-same (placeCell q) (omega arith)) (put-same (invariantsCell (placeAt t q)) (omega arith)) (λ j k. put-same _ (omega arith))
+      process-kept grown q (put-same (placeCell q) (omega arith)) (put-same (invariantsCell (placeAt t q)) (omega arith))
+      (λ j k. put-same _ (omega arith))
       (few-limits t (invariantGroup (placeAt t q)) (invariantCount t (placeAt t q)) (f .location (placeAt t q) known)) (f .process q h)
 
   -- ---- p is the place of the key
@@ -243,14 +266,16 @@ module _ (t : List ℕ) (p n key : ℕ) (ws : List ℕ) (l : Limits) (f : Formed
 
     old : (k : ℕ) → k < p → transitionFormed after k ≡ true
     old k h =
-        transition-kept grown k k (omega arith) (omega arith) (λ j m. put-same _ (omega arith)) (λ j m. put-same _ (omega arith)) (λ j m. put-same _ (omega arith))
+        transition-kept grown k k (omega arith) (omega arith) (λ j m. put-same _ (omega arith)) (λ j m. put-same _ (omega arith))
+        (λ j m. put-same _ (omega arith))
         (order k (omega arith)) (f .transition k (omega arith))
 
     later : (k : ℕ) → p < k → k < n + 1 → transitionFormed after k ≡ true
     later k h m =
         let e : k ≡ k - 1 + 1 = omega arith in
         transition-kept grown (k - 1) k (omega arith) (omega arith)
-        (row-moved (k - 1) k e (omega arith) (omega arith)) (limits-moved (k - 1) k e (omega arith) (omega arith)) (items-moved (k - 1) k e (omega arith) (omega arith))
+        (row-moved (k - 1) k e (omega arith) (omega arith)) (limits-moved (k - 1) k e (omega arith) (omega arith))
+        (items-moved (k - 1) k e (omega arith) (omega arith))
         (order k m) (f .transition (k - 1) (omega arith))
 
     new : keyFormed t key ≡ true → GuardFits t ws → ClocksKnown t l → LimitsFit l
@@ -286,10 +311,12 @@ module _ (t : List ℕ) (p n key : ℕ) (ws : List ℕ) (l : Limits) (f : Formed
       transition = λ k h. sides k p (old k) (λ e. rw e (new known sound clocks fit)) (λ m. later k m (omega (arith, put-count)));
     }
 
-pub transition-formed : (t : List ℕ) (key : ℕ) (ws : List ℕ) (l : Limits) → Formed t → transitionCount t < transitionRoom → keyFormed t key ≡ true → length ws ≤ itemRoom
+pub transition-formed : (t : List ℕ) (key : ℕ) (ws : List ℕ) (l : Limits) → Formed t → transitionCount t < transitionRoom
+    → keyFormed t key ≡ true → length ws ≤ itemRoom
     → GuardFits t ws → l .count ≤ limitRoom → ClocksKnown t l → LimitsFit l
     → Formed (withTransition t key ws l)
 transition-formed t key ws l f room known short sound few clocks fit =
     let n = transitionCount t in
     let least : transitionPlace t key ≤ n = place-bound (keyOf t) n key in
-    whole t (transitionPlace t key) n key ws l f refl least room few short (place-above (keyOf t) n key) (place-below (keyOf t) n key) known sound clocks fit
+    whole t (transitionPlace t key) n key ws l f refl least room few short (place-above (keyOf t) n key)
+    (place-below (keyOf t) n key) known sound clocks fit

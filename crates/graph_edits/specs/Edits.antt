@@ -9,17 +9,22 @@ use Rattle.time.specs.Time.{inRange}
 use Rattle.time.specs.declared.Bound.{Bound}
 use Rattle.time.specs.declared.Bound.the-variants.{Included, Excluded, Unbounded}
 use Rattle.time.specs.declared.TimeRange.{TimeRange}
-use Rattle.graph_tables.specs.Layout.{variablesCell, clocksCell, locationsCell, actionsCell, processesCell, transitionsCell, transitionWidth, limitWidth, groupWidth, kindCell, valueCell, placeCell, invariantsCell, actionRow, resetsCell, effectsCell, resetCell, varCell, lengthCell, transitionRow, guardCell, limitsCell, groupStart, limitRow, guardSlot, effectSlot, lowerCell, upperCell}
+use Rattle.graph_tables.specs.Layout.{variablesCell, clocksCell, locationsCell, actionsCell, processesCell, transitionsCell}
+use Rattle.graph_tables.specs.Layout.{transitionWidth, limitWidth, groupWidth, kindCell, valueCell, placeCell, invariantsCell, actionRow}
+use Rattle.graph_tables.specs.Layout.{resetsCell, effectsCell, resetCell, varCell, lengthCell, transitionRow, guardCell, limitsCell}
+use Rattle.graph_tables.specs.Layout.{groupStart, limitRow, guardSlot, effectSlot, lowerCell, upperCell}
 use Rattle.graph_tables.specs.Sizes.{itemRoom, word32, sendKind, receiveKind}
 use Rattle.graph_tables.specs.declared.handed.Limits.{Limits}
 use Rattle.graph_tables.specs.declared.handed.Vars.{Vars}
 use Rattle.graph_tables.specs.Handed.{handedClock, handedRange, handedVar}
-use Rattle.graph_tables.specs.Words.{variableCount, clockCount, locationCount, actionCount, processCount, transitionCount, resetCount, effectCount, resetAt, clockOf, keyOf, invariantGroup, boundWord}
+use Rattle.graph_tables.specs.Words.{variableCount, clockCount, locationCount, actionCount, processCount, transitionCount, resetCount}
+use Rattle.graph_tables.specs.Words.{effectCount, resetAt, clockOf, keyOf, invariantGroup, boundWord}
 use Rattle.graph_edits.specs.Rows.{placeOf, gapOf, pastedAt}
 
 -- ---- variables: a kind and a value
 abbrev pub withVar : List ℕ → ℕ → ℕ → List ℕ
-withVar t kind value = set (set (set t (kindCell (variableCount t)) kind) (valueCell (variableCount t)) value) variablesCell (variableCount t + 1)
+withVar t kind value =
+    set (set (set t (kindCell (variableCount t)) kind) (valueCell (variableCount t)) value) variablesCell (variableCount t + 1)
 
 -- ---- clocks
 abbrev pub withClock : List ℕ → List ℕ
@@ -31,7 +36,8 @@ abbrev pub limitPlace : List ℕ → ℕ → ℕ → ℕ → ℕ
 limitPlace t g n clock = placeOf (clockOf t g) n clock
 
 abbrev pub limitPut : List ℕ → ℕ → ℕ → ℕ → TimeRange → List ℕ
-limitPut t g i clock range = set (set (set t (limitRow g i) clock) (lowerCell g i) (boundWord (range .lower))) (upperCell g i) (boundWord (range .upper))
+limitPut t g i clock range =
+    set (set (set t (limitRow g i) clock) (lowerCell g i) (boundWord (range .lower))) (upperCell g i) (boundWord (range .upper))
 
 unfoldable pub withLimit : List ℕ → ℕ → ℕ → ℕ → TimeRange → List ℕ
 withLimit t g n clock range =
@@ -45,7 +51,8 @@ withLimits t g l (suc n) = withLimit (withLimits t g l n) g n (handedClock l n) 
 -- ---- locations, with their invariants
 abbrev pub withLocation : List ℕ → Limits → List ℕ
 withLocation t l =
-    set (set (withLimits t (invariantGroup (locationCount t)) l (l .count)) (invariantsCell (locationCount t)) (l .count)) locationsCell (locationCount t + 1)
+    set (set (withLimits t (invariantGroup (locationCount t)) l (l .count)) (invariantsCell (locationCount t)) (l .count)) locationsCell
+    (locationCount t + 1)
 
 -- ---- processes
 abbrev pub withProcess : List ℕ → ℕ → List ℕ
@@ -64,7 +71,8 @@ resetPlace t a clock = placeOf (resetAt t a) (resetCount t a) clock
 
 abbrev pub withReset : List ℕ → ℕ → ℕ → List ℕ
 withReset t a clock =
-    set (set (gapOf t (resetCell a (resetPlace t a clock)) (resetCell a (resetCount t a)) 1) (resetCell a (resetPlace t a clock)) clock) (resetsCell a) (resetCount t a + 1)
+    set (set (gapOf t (resetCell a (resetPlace t a clock)) (resetCell a (resetCount t a)) 1) (resetCell a (resetPlace t a clock)) clock)
+    (resetsCell a) (resetCount t a + 1)
 
 -- expression e of action a: how many items it has, and the items
 unfoldable pub withExpression : List ℕ → ℕ → ℕ → List ℕ → List ℕ
@@ -72,7 +80,8 @@ withExpression t a e ws = pastedAt (set t (lengthCell a e) (length ws)) (effectS
 
 -- an effect more, behind the others
 abbrev pub withEffect : List ℕ → ℕ → ℕ → List ℕ → List ℕ
-withEffect t a v ws = set (set (withExpression t a (effectCount t a) ws) (varCell a (effectCount t a)) v) (effectsCell a) (effectCount t a + 1)
+withEffect t a v ws =
+    set (set (withExpression t a (effectCount t a) ws) (varCell a (effectCount t a)) v) (effectsCell a) (effectCount t a + 1)
 
 -- one of four, by its number
 abbrev pub chosen : List ℕ → List ℕ → List ℕ → List ℕ → ℕ → List ℕ
@@ -104,7 +113,8 @@ transitionPlace t key = placeOf (keyOf t) (transitionCount t) key
 -- row p of n rows: a key, how many items the guard has, how many limits
 unfoldable pub withRow : List ℕ → ℕ → ℕ → ℕ → ℕ → ℕ → List ℕ
 withRow t p n key items limits =
-    set (set (set (gapOf t (transitionRow p) (transitionRow n) transitionWidth) (transitionRow p) key) (guardCell p) items) (limitsCell p) limits
+    set (set (set (gapOf t (transitionRow p) (transitionRow n) transitionWidth) (transitionRow p) key) (guardCell p) items)
+    (limitsCell p) limits
 
 -- limit group p of n groups
 unfoldable pub withGroup : List ℕ → ℕ → ℕ → Limits → List ℕ

@@ -17,10 +17,19 @@ use Rattle.grammar.proofs.MoreKinds.{type-more}
 use Rattle.grammar.specs.declared.values.«Type».{«Type» as Kind}
 use Rattle.grammar.specs.declared.typing.Typed.{Typed}
 use Rattle.grammar.specs.declared.typing.Typed.the-variants.{Known, IllTyped, TableFull, TooDeep}
-use Rattle.graph_tables.specs.Layout.{kindsStart, actionWidth, transitionWidth, limitWidth, groupWidth, resetsFrom, varsFrom, lengthsFrom, actionRow, transitionRow, groupStart, guardSlot, effectSlot}
-use Rattle.graph_tables.specs.Sizes.{actionRoom, transitionRoom, variableRoom, limitRoom, effectRoom, resetRoom, messageRoom, itemRoom, plainKind, sendKind}
-use Rattle.graph_tables.specs.Words.{Words, variableCount, clockCount, locationCount, actionCount, processCount, transitionCount, kindAt, kindsOf, valueAt, placeAt, invariantCount, actionKind, resetCount, effectCount, resetAt, effectVar, effectLength, keyOf, guardLength, limitCount, preOf, actionOf, postOf, clockOf, lowerOf, upperOf, guardItems, effectItems, epsilon, invariantGroup}
-use Rattle.graph_tables.specs.Formed.{countsFormed, variableFormed, clockBefore, limitFormed, limitsFormed, locationFormed, zeroInside, processFormed, resetBefore, resetFormed, resetsFormed, effectFormed, effectDraws, plainFormed, expressionFormed, sendFormed, targetFormed, receiveFormed, actionFormed, actionKnown, keyFormed, keyBefore, guardFormed, transitionFormed, partsFormed, startedOf, wellFormed}
+use Rattle.graph_tables.specs.Layout.{kindsStart, actionWidth, transitionWidth, limitWidth, groupWidth, resetsFrom, varsFrom}
+use Rattle.graph_tables.specs.Layout.{lengthsFrom, actionRow, transitionRow, groupStart, guardSlot, effectSlot}
+use Rattle.graph_tables.specs.Sizes.{actionRoom, transitionRoom, variableRoom, limitRoom, effectRoom, resetRoom, messageRoom}
+use Rattle.graph_tables.specs.Sizes.{itemRoom, plainKind, sendKind}
+use Rattle.graph_tables.specs.Words.{Words, variableCount, clockCount, locationCount, actionCount, processCount, transitionCount}
+use Rattle.graph_tables.specs.Words.{kindAt, kindsOf, valueAt, placeAt, invariantCount, actionKind, resetCount, effectCount, resetAt}
+use Rattle.graph_tables.specs.Words.{effectVar, effectLength, keyOf, guardLength, limitCount, preOf, actionOf, postOf, clockOf}
+use Rattle.graph_tables.specs.Words.{lowerOf, upperOf, guardItems, effectItems, epsilon, invariantGroup}
+use Rattle.graph_tables.specs.Formed.{countsFormed, variableFormed, clockBefore, limitFormed, limitsFormed, locationFormed}
+use Rattle.graph_tables.specs.Formed.{zeroInside, processFormed, resetBefore, resetFormed, resetsFormed, effectFormed, effectDraws}
+use Rattle.graph_tables.specs.Formed.{plainFormed, expressionFormed, sendFormed, targetFormed, receiveFormed, actionFormed}
+use Rattle.graph_tables.specs.Formed.{actionKnown, keyFormed, keyBefore, guardFormed, transitionFormed, partsFormed, startedOf}
+use Rattle.graph_tables.specs.Formed.{wellFormed}
 use Rattle.graph_tables.specs.Sound.{Counted}
 use Rattle.graph_tables.proofs.FormedLaws.{few-limits, short-effects, short-expressions, counted}
 
@@ -105,12 +114,13 @@ below-kept : (x : ℕ) {a b : ℕ} → a ≤ b → ltb x a ≡ true → ltb x b 
 below-kept x {a} {b} l h = let k : x < a = ltb-true x a h in lt-ltb x b (omega arith)
 
 -- a choice by the same test
-choice-kept : (test : Bool) {a b c d : Bool} → (a ≡ true → c ≡ true) → (b ≡ true → d ≡ true) → cond test a b ≡ true → cond test c d ≡ true
+pub choice-kept : (test : Bool) {a b c d : Bool} → (a ≡ true → c ≡ true) → (b ≡ true → d ≡ true) → cond test a b ≡ true → cond test c d ≡ true
 choice-kept true f g h = f h
 choice-kept false f g h = g h
 
 -- ---- variables
-pub variable-kept : (t u : List ℕ) (v : ℕ) → kindAt u v ≡ kindAt t v → valueAt u v ≡ valueAt t v → variableFormed t v ≡ true → variableFormed u v ≡ true
+pub variable-kept : (t u : List ℕ) (v : ℕ) → kindAt u v ≡ kindAt t v → valueAt u v ≡ valueAt t v → variableFormed t v ≡ true
+    → variableFormed u v ≡ true
 unfolding variableFormed
 variable-kept t u v kind value h = rw (kind, value) h
 
@@ -149,18 +159,21 @@ module _ {t u : List ℕ} (grown : Grown t u) where
       and-kept (λ r. r) (all-kept (limitFormed t g) (limitFormed u h) n (λ i l. limit-kept t u g h moved (grown .clocks) i (omega arith))) f
 
   -- ---- locations and processes
-  pub location-kept : (l : ℕ) → invariantCount u l ≡ invariantCount t l → GroupMoved t u (invariantGroup l) (invariantGroup l) → locationFormed t l ≡ true → locationFormed u l ≡ true
+  pub location-kept : (l : ℕ) → invariantCount u l ≡ invariantCount t l → GroupMoved t u (invariantGroup l) (invariantGroup l)
+      → locationFormed t l ≡ true → locationFormed u l ≡ true
   unfolding locationFormed
   location-kept l count moved f = rw count (limits-kept (invariantGroup l) (invariantGroup l) (invariantCount t l) moved f)
 
   pub process-kept : (p : ℕ) → placeAt u p ≡ placeAt t p → invariantCount u (placeAt t p) ≡ invariantCount t (placeAt t p)
-      → GroupMoved t u (invariantGroup (placeAt t p)) (invariantGroup (placeAt t p)) → invariantCount t (placeAt t p) ≤ limitRoom → processFormed t p ≡ true → processFormed u p ≡ true
+      → GroupMoved t u (invariantGroup (placeAt t p)) (invariantGroup (placeAt t p)) → invariantCount t (placeAt t p) ≤ limitRoom
+      → processFormed t p ≡ true → processFormed u p ≡ true
   unfolding processFormed
   process-kept p place count moved few f =
       let l = placeAt t p in
       rw (place, count)
       (and-kept (below-kept l (grown .locations))
-      (all-kept (zeroInside t (invariantGroup l)) (zeroInside u (invariantGroup l)) (invariantCount t l) (λ i k z. zero-kept t u (invariantGroup l) (invariantGroup l) moved i (omega arith) ∙ z))
+      (all-kept (zeroInside t (invariantGroup l)) (zeroInside u (invariantGroup l)) (invariantCount t l)
+      (λ i k z. zero-kept t u (invariantGroup l) (invariantGroup l) moved i (omega arith) ∙ z))
       f)
 
 -- ---- the kinds of variables and of expressions
@@ -184,7 +197,8 @@ module _ {t u : List ℕ} (grown : Grown t u) where
       let m = variableCount u - n in
       let more = take m (drop n (drop kindsStart u)) in
       let sum : variableCount u ≡ n + m = omega arith in
-      let front : take n (drop kindsStart u) ≡ kindsOf t = items-moved t u kindsStart kindsStart n n (omega arith) (omega arith) (omega arith) (grown .kinds) in
+      let front : take n (drop kindsStart u) ≡ kindsOf t =
+      items-moved t u kindsStart kindsStart n n (omega arith) (omega arith) (omega arith) (grown .kinds) in
       (more, ap (λ (k : ℕ). take k (drop kindsStart u)) sum ∙ take-add n m (drop kindsStart u) ∙ ap (λ (l : List ℕ). l ++ more) front)
 
   pub typed-grown : (ws : List ℕ) (k : Kind) → typeOf (kindsOf t) ws ≡ Known k → typeOf (kindsOf u) ws ≡ Known k
@@ -213,7 +227,8 @@ module _ {t u : List ℕ} (grown : Grown t u) (a : ℕ) where
   before-kept n same zero l = refl
   before-kept n same (suc i) l = same i (omega arith)
 
-  pub resets-kept : resetCount u a ≡ resetCount t a → ((i : ℕ) → i < resetCount t a → resetAt u a i ≡ resetAt t a i) → resetsFormed t a ≡ true → resetsFormed u a ≡ true
+  pub resets-kept : resetCount u a ≡ resetCount t a → ((i : ℕ) → i < resetCount t a → resetAt u a i ≡ resetAt t a i)
+      → resetsFormed t a ≡ true → resetsFormed u a ≡ true
   unfolding resetsFormed resetFormed
   resets-kept count same h =
       rw count
@@ -247,32 +262,37 @@ module _ {t u : List ℕ} (grown : Grown t u) (a : ℕ) where
           rw (items-kept (leb-true _ _ (and-first _ _ h)), same) (and-kept (λ r. r) (is-typed-grown grown (effectItems t a e)) h)
 
     -- the first n expressions, of the same lengths, with the same items
-    module _ (n : ℕ) (room : n ≤ effectRoom) (same : (e : ℕ) → e < n → effectLength u a e ≡ effectLength t a e) (items : (e : ℕ) → e < n → ItemsKept t u a e) where
-      pub effects-kept : ((e : ℕ) → e < n → effectVar u a e ≡ effectVar t a e) → allBelow n (effectFormed t a) ≡ true → allBelow n (effectFormed u a) ≡ true
-      effects-kept vars = all-kept (effectFormed t a) (effectFormed u a) n (λ e l. effect-kept e (omega arith) (same e l) (items e l) (vars e l))
+    module _ (n : ℕ) (room : n ≤ effectRoom) (same : (e : ℕ) → e < n → effectLength u a e ≡ effectLength t a e)
+        (items : (e : ℕ) → e < n → ItemsKept t u a e) where
+      pub effects-kept : ((e : ℕ) → e < n → effectVar u a e ≡ effectVar t a e) → allBelow n (effectFormed t a) ≡ true
+          → allBelow n (effectFormed u a) ≡ true
+      effects-kept vars =
+          all-kept (effectFormed t a) (effectFormed u a) n (λ e l. effect-kept e (omega arith) (same e l) (items e l) (vars e l))
 
       pub expressions-kept : allBelow n (expressionFormed t a) ≡ true → allBelow n (expressionFormed u a) ≡ true
-      expressions-kept = all-kept (expressionFormed t a) (expressionFormed u a) n (λ e l. expression-kept e (omega arith) (same e l) (items e l))
+      expressions-kept =
+          all-kept (expressionFormed t a) (expressionFormed u a) n (λ e l. expression-kept e (omega arith) (same e l) (items e l))
 
       pub draws-kept : ((e : ℕ) → e < n → effectLength t a e ≤ itemRoom) → sumBelow n (effectDraws u a) ≡ sumBelow n (effectDraws t a)
       unfolding effectDraws
-      draws-kept few = sum-same (effectDraws u a) (effectDraws t a) n (λ e l. ap drawsOf (items-kept e (omega arith) (same e l) (items e l) (few e l)))
+      draws-kept few =
+          sum-same (effectDraws u a) (effectDraws t a) n (λ e l. ap drawsOf (items-kept e (omega arith) (same e l) (items e l) (few e l)))
 
     -- the whole action, word by word
     module _ (row : Moved t u (actionRow a) (actionRow a) actionWidth) (items : (e : ℕ) → e < effectRoom → ItemsKept t u a e) where
-      kind-word : actionKind u a ≡ actionKind t a
+      pub kind-word : actionKind u a ≡ actionKind t a
       kind-word = simp add-zero at (row 0 (omega arith))
 
       reset-word : resetCount u a ≡ resetCount t a
       reset-word = row 1 (omega arith)
 
-      count-word : effectCount u a ≡ effectCount t a
+      pub count-word : effectCount u a ≡ effectCount t a
       count-word = row 2 (omega arith)
 
-      var-word : (e : ℕ) → e < effectRoom → effectVar u a e ≡ effectVar t a e
+      pub var-word : (e : ℕ) → e < effectRoom → effectVar u a e ≡ effectVar t a e
       var-word e l = row (varsFrom + e) (omega arith)
 
-      length-word : (e : ℕ) → e < effectRoom → effectLength u a e ≡ effectLength t a e
+      pub length-word : (e : ℕ) → e < effectRoom → effectLength u a e ≡ effectLength t a e
       length-word e l = row (lengthsFrom + e) (omega arith)
 
       plain-kept : plainFormed t a ≡ true → plainFormed u a ≡ true
@@ -295,7 +315,8 @@ module _ {t u : List ℕ} (grown : Grown t u) (a : ℕ) where
           let few : n ≤ messageRoom = leb-true _ _ (and-first _ _ (and-rest _ _ h)) in
           let same : (e : ℕ) → e < n → effectLength u a e ≡ effectLength t a e = λ e l. length-word e (omega arith) in
           let each : (e : ℕ) → e < n → ItemsKept t u a e = λ e l. items e (omega arith) in
-          rw (reset-word, count-word, draws-kept n (omega arith) same each (short-expressions t a n (and-first _ _ (and-rest _ _ (and-rest _ _ h)))))
+          rw (reset-word, count-word, draws-kept n (omega arith) same each
+          (short-expressions t a n (and-first _ _ (and-rest _ _ (and-rest _ _ h)))))
           (and-kept (λ r. r) (and-kept (λ r. r) (and-kept (expressions-kept n (omega arith) same each) (λ r. r))) h)
 
       receive-kept : receiveFormed t a ≡ true → receiveFormed u a ≡ true
@@ -304,13 +325,15 @@ module _ {t u : List ℕ} (grown : Grown t u) (a : ℕ) where
           let n = effectCount t a in
           let few : n ≤ messageRoom = leb-true _ _ (and-first _ _ (and-rest _ _ h)) in
           rw (reset-word, count-word)
-          (and-kept (λ r. r) (and-kept (λ r. r) (all-kept (targetFormed t a) (targetFormed u a) n (λ e l. target-kept e (var-word e (omega arith))))) h)
+          (and-kept (λ r. r)
+          (and-kept (λ r. r) (all-kept (targetFormed t a) (targetFormed u a) n (λ e l. target-kept e (var-word e (omega arith))))) h)
 
       pub action-kept : actionFormed t a ≡ true → actionFormed u a ≡ true
       unfolding actionFormed
       action-kept h =
           rw kind-word
-          (choice-kept (eqb (actionKind t a) plainKind) plain-kept (choice-kept (eqb (actionKind t a) sendKind) send-kept (and-kept (λ r. r) receive-kept)) h)
+          (choice-kept (eqb (actionKind t a) plainKind) plain-kept
+          (choice-kept (eqb (actionKind t a) sendKind) send-kept (and-kept (λ r. r) receive-kept)) h)
 
 -- ---- transitions
 module _ {t u : List ℕ} (grown : Grown t u) where
@@ -325,11 +348,13 @@ module _ {t u : List ℕ} (grown : Grown t u) where
   pub key-kept : (key : ℕ) → keyFormed t key ≡ true → keyFormed u key ≡ true
   unfolding keyFormed
   key-kept key h =
-      and-kept (below-kept (preOf key) (grown .locations)) (and-kept (below-kept (postOf key) (grown .locations)) (known-kept (actionOf key))) h
+      and-kept (below-kept (preOf key) (grown .locations))
+      (and-kept (below-kept (postOf key) (grown .locations)) (known-kept (actionOf key))) h
 
   -- transition k of t is transition m of u
   module _ (k m : ℕ) (in-t : k < transitionRoom) (in-u : m < transitionRoom) where
-    pub guard-kept : guardLength u m ≡ guardLength t k → Moved t u (guardSlot k) (guardSlot m) itemRoom → guardFormed t k ≡ true → guardFormed u m ≡ true
+    pub guard-kept : guardLength u m ≡ guardLength t k → Moved t u (guardSlot k) (guardSlot m) itemRoom → guardFormed t k ≡ true
+        → guardFormed u m ≡ true
     unfolding guardFormed
     guard-kept same items h =
         rw same
@@ -340,7 +365,8 @@ module _ {t u : List ℕ} (grown : Grown t u) where
         (and-kept (λ r. r) (and-kept (typed-as-grown grown 0 (guardItems t k)) (λ r. r)) f))
         h)
 
-    pub transition-kept : Moved t u (transitionRow k) (transitionRow m) transitionWidth → GroupMoved t u k m → Moved t u (guardSlot k) (guardSlot m) itemRoom
+    pub transition-kept : Moved t u (transitionRow k) (transitionRow m) transitionWidth → GroupMoved t u k m
+        → Moved t u (guardSlot k) (guardSlot m) itemRoom
         → keyBefore u m ≤ keyOf u m → transitionFormed t k ≡ true → transitionFormed u m ≡ true
     unfolding transitionFormed
     transition-kept row group items order h =
@@ -348,5 +374,6 @@ module _ {t u : List ℕ} (grown : Grown t u) where
         let guard : guardLength u m ≡ guardLength t k = row 1 (omega arith) in
         let count : limitCount u m ≡ limitCount t k = row 2 (omega arith) in
         and-kept (λ f. rw key (key-kept (keyOf t k) f))
-        (and-kept (λ f. le-leb _ _ order) (and-kept (guard-kept guard items) (λ f. rw count (limits-kept grown k m (limitCount t k) group f))))
+        (and-kept (λ f. le-leb _ _ order)
+        (and-kept (guard-kept guard items) (λ f. rw count (limits-kept grown k m (limitCount t k) group f))))
         h

@@ -1,4 +1,6 @@
 pub mod FormedLaws
 pub mod SoundLaws
+pub mod MessageLaws
 pub mod KeptLaws
 pub mod NumberLaws
+pub mod Determined

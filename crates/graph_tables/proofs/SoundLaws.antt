@@ -18,18 +18,25 @@ use Rattle.grammar.specs.declared.values.«Type».{«Type» as Kind}
 use Rattle.grammar.specs.declared.typing.Typed.{Typed}
 use Rattle.grammar.specs.declared.typing.Typed.the-variants.{Known, IllTyped, TableFull, TooDeep}
 use Rattle.graph_tables.specs.Sizes.{messageRoom, plainKind, sendKind, receiveKind}
-use Rattle.graph_tables.specs.Words.{actionCount, processCount, transitionCount, kindAt, kindsOf, valueAt, placeAt, actionKind, resetCount, effectCount, resetAt, effectVar, keyOf, guardLength, clockOf, guardItems, effectItems, epsilon, invariantGroup}
-use Rattle.graph_tables.specs.Formed.{variableFormed, clockBefore, limitFormed, limitsFormed, locationFormed, zeroInside, processFormed, resetBefore, resetFormed, resetsFormed, effectFormed, plainFormed, expressionFormed, sendFormed, targetFormed, receiveFormed, actionFormed, actionKnown, keyFormed, keyBefore, guardFormed, transitionFormed, partsFormed, startedOf, wellFormed}
-use Rattle.graph_tables.specs.Sound.{VariableSound, LimitsSound, ProcessSound, ResetsSound, ExpressionSound, EffectSound, ActionSound, GuardSound, TransitionSound, Sound}
+use Rattle.graph_tables.specs.Words.{actionCount, processCount, transitionCount, kindAt, kindsOf, valueAt, placeAt, actionKind}
+use Rattle.graph_tables.specs.Words.{resetCount, effectCount, resetAt, effectVar, keyOf, guardLength, clockOf, guardItems}
+use Rattle.graph_tables.specs.Words.{effectItems, epsilon, invariantGroup}
+use Rattle.graph_tables.specs.Formed.{variableFormed, clockBefore, limitFormed, limitsFormed, locationFormed, zeroInside}
+use Rattle.graph_tables.specs.Formed.{processFormed, resetBefore, resetFormed, resetsFormed, effectFormed, plainFormed}
+use Rattle.graph_tables.specs.Formed.{expressionFormed, sendFormed, targetFormed, receiveFormed, actionFormed, actionKnown, keyFormed}
+use Rattle.graph_tables.specs.Formed.{keyBefore, guardFormed, transitionFormed, partsFormed, startedOf, wellFormed}
+use Rattle.graph_tables.specs.Sound.{VariableSound, LimitsSound, ProcessSound, ResetsSound, ExpressionSound, EffectSound, ActionSound}
+use Rattle.graph_tables.specs.Sound.{GuardSound, TransitionSound, Sound}
 use Rattle.graph_tables.proofs.FormedLaws.{few-limits, limits-fit, counted}
 
 -- a choice that holds, by its test
-by-test : {P : Type 0} (t a b : Bool) → cond t a b ≡ true → (t ≡ true → a ≡ true → P) → (t ≡ false → b ≡ true → P) → P
+pub by-test : {P : Type 0} (t a b : Bool) → cond t a b ≡ true → (t ≡ true → a ≡ true → P) → (t ≡ false → b ≡ true → P) → P
 by-test true a b h first second = first refl h
 by-test false a b h first second = second refl h
 
 -- numbers of which each is at least the one before
-in-order : (f before : ℕ → ℕ) (n : ℕ) → ((i : ℕ) → before (suc i) ≡ f i) → ((i : ℕ) → i < n → before i ≤ f i) → (i : ℕ) → i + 1 < n → f i ≤ f (i + 1)
+in-order : (f before : ℕ → ℕ) (n : ℕ) → ((i : ℕ) → before (suc i) ≡ f i) → ((i : ℕ) → i < n → before i ≤ f i) → (i : ℕ) → i + 1 < n
+    → f i ≤ f (i + 1)
 in-order f before n same h i l =
     let e : before (suc i) ≤ f (suc i) = h (suc i) (omega arith) in
     let s : before (suc i) ≡ f i = same i in
@@ -57,7 +64,9 @@ limits t g n h =
       few = few-limits t g n h;
       clock = λ i l. ltb-true _ _ (and-first _ _ (each i l));
       fit = limits-fit t g n h;
-      ordered = in-order (clockOf t g) (clockBefore t g) n (λ i. refl) (λ i l. leb-true _ _ (and-rest _ _ (and-rest _ _ (and-rest _ _ (each i l)))));
+      ordered =
+          in-order (clockOf t g) (clockBefore t g) n (λ i. refl)
+          (λ i l. leb-true _ _ (and-rest _ _ (and-rest _ _ (and-rest _ _ (each i l)))));
     }
 
 -- ---- processes
@@ -159,7 +168,8 @@ receive t a k h =
       few = omega arith;
       plain = λ e. absurd (omega arith);
       send = λ e. absurd (omega arith);
-      receive = λ e. record { still = z; few = n; var = λ i l. ltb-true _ _ (all-at (targetFormed t a) _ i (and-rest _ _ (and-rest _ _ h)) l) };
+      receive =
+          λ e. record { still = z; few = n; var = λ i l. ltb-true _ _ (all-at (targetFormed t a) _ i (and-rest _ _ (and-rest _ _ h)) l) };
     }
 
 action : (t : List ℕ) (a : ℕ) → actionFormed t a ≡ true → ActionSound t a

@@ -9,23 +9,34 @@ use Rattle.laws.specs.Below.{_and_, allBelow, sumBelow}
 use Rattle.time.specs.Time.{inRange}
 use Rattle.grammar.specs.Draws.{drawsOf}
 use Rattle.grammar.specs.Typing.{typeOf, isTyped, typedAs}
-use Rattle.graph_tables.specs.Layout.{tableWords}
-use Rattle.graph_tables.specs.Sizes.{processRoom, locationRoom, actionRoom, transitionRoom, variableRoom, clockRoom, limitRoom, effectRoom, resetRoom, drawRoom, messageRoom, itemRoom, word32, plainKind, sendKind, receiveKind}
-use Rattle.graph_tables.specs.Words.{variableCount, clockCount, locationCount, actionCount, processCount, transitionCount, kindAt, kindsOf, valueAt, placeAt, invariantCount, actionKind, resetCount, effectCount, resetAt, effectVar, effectLength, keyOf, guardLength, limitCount, preOf, actionOf, postOf, clockOf, lowerOf, upperOf, limitRange, guardItems, effectItems, epsilon, invariantGroup}
+use Rattle.graph_tables.specs.Layout.{tableWords, boundSpan, unboundedKind, spareKind}
+use Rattle.graph_tables.specs.Sizes.{processRoom, locationRoom, actionRoom, transitionRoom, variableRoom, clockRoom, limitRoom}
+use Rattle.graph_tables.specs.Sizes.{effectRoom, resetRoom, drawRoom, messageRoom, itemRoom, word32}
+use Rattle.graph_tables.specs.Sizes.{booleanKind, integerKind, plainKind, sendKind, receiveKind}
+use Rattle.graph_tables.specs.Words.{variableCount, clockCount, locationCount, actionCount, processCount, transitionCount, kindAt}
+use Rattle.graph_tables.specs.Words.{kindsOf, valueAt, placeAt, invariantCount, actionKind, resetCount, effectCount, resetAt}
+use Rattle.graph_tables.specs.Words.{effectVar, effectLength, keyOf, guardLength, limitCount, preOf, actionOf, postOf, clockOf}
+use Rattle.graph_tables.specs.Words.{lowerOf, upperOf, limitRange, guardItems, effectItems, epsilon, invariantGroup}
 
 -- ---- counts
 unfoldable pub countsFormed : List ℕ → Bool
 countsFormed t =
-    leb (variableCount t) variableRoom and leb (clockCount t) clockRoom and leb (locationCount t) locationRoom and leb (actionCount t) actionRoom and
+    leb (variableCount t) variableRoom and leb (clockCount t) clockRoom and leb (locationCount t) locationRoom and
+    leb (actionCount t) actionRoom and
     leb (processCount t) processRoom and leb (transitionCount t) transitionRoom
 
 -- ---- variables: a boolean is 0 or 1, an integer has 32 bits
 unfoldable pub variableFormed : List ℕ → ℕ → Bool
-variableFormed t v = cond (eqb (kindAt t v) 0) (ltb (valueAt t v) 2) (eqb (kindAt t v) 1 and ltb (valueAt t v) word32)
+variableFormed t v =
+    cond (eqb (kindAt t v) booleanKind) (ltb (valueAt t v) 2) (eqb (kindAt t v) integerKind and ltb (valueAt t v) word32)
 
 -- ---- limits: a known clock, two bounds, in the order of their clocks
 unfoldable pub boundFormed : ℕ → Bool
-boundFormed w = cond (eqb w 0) true (cond (eqb (w % 4) 0) false (cond (eqb (w % 4) 3) false (ltb (w / 4) word32)))
+boundFormed w =
+    cond (eqb w unboundedKind) true
+    (cond (eqb (w % boundSpan) unboundedKind) false
+    (cond (eqb (w % boundSpan) spareKind) false
+    (ltb (w / boundSpan) word32)))
 
 -- the clock of the limit before, and 0 before the first
 abbrev pub clockBefore : List ℕ → ℕ → ℕ → ℕ
@@ -34,7 +45,8 @@ clockBefore t g (suc i) = clockOf t g i
 
 unfoldable pub limitFormed : List ℕ → ℕ → ℕ → Bool
 limitFormed t g i =
-    ltb (clockOf t g i) (clockCount t) and boundFormed (lowerOf t g i) and boundFormed (upperOf t g i) and leb (clockBefore t g i) (clockOf t g i)
+    ltb (clockOf t g i) (clockCount t) and boundFormed (lowerOf t g i) and boundFormed (upperOf t g i) and
+    leb (clockBefore t g i) (clockOf t g i)
 
 unfoldable pub limitsFormed : List ℕ → ℕ → ℕ → Bool
 limitsFormed t g n = leb n limitRoom and allBelow n (limitFormed t g)
@@ -48,7 +60,8 @@ unfoldable pub zeroInside : List ℕ → ℕ → ℕ → Bool
 zeroInside t g i = inRange (limitRange t g i) 0
 
 unfoldable pub processFormed : List ℕ → ℕ → Bool
-processFormed t p = ltb (placeAt t p) (locationCount t) and allBelow (invariantCount t (placeAt t p)) (zeroInside t (invariantGroup (placeAt t p)))
+processFormed t p =
+    ltb (placeAt t p) (locationCount t) and allBelow (invariantCount t (placeAt t p)) (zeroInside t (invariantGroup (placeAt t p)))
 
 -- ---- actions
 abbrev pub resetBefore : List ℕ → ℕ → ℕ → ℕ
@@ -63,7 +76,8 @@ resetsFormed t a = leb (resetCount t a) resetRoom and allBelow (resetCount t a) 
 
 unfoldable pub effectFormed : List ℕ → ℕ → ℕ → Bool
 effectFormed t a e =
-    ltb (effectVar t a e) (variableCount t) and leb (effectLength t a e) itemRoom and typedAs (kindAt t (effectVar t a e)) (typeOf (kindsOf t) (effectItems t a e))
+    ltb (effectVar t a e) (variableCount t) and leb (effectLength t a e) itemRoom and
+    typedAs (kindAt t (effectVar t a e)) (typeOf (kindsOf t) (effectItems t a e))
 
 -- all effects together, and all expressions of a message, have room for their draws
 unfoldable pub effectDraws : List ℕ → ℕ → ℕ → ℕ
@@ -71,7 +85,8 @@ effectDraws t a e = drawsOf (effectItems t a e)
 
 unfoldable pub plainFormed : List ℕ → ℕ → Bool
 plainFormed t a =
-    resetsFormed t a and leb (effectCount t a) effectRoom and allBelow (effectCount t a) (effectFormed t a) and leb (sumBelow (effectCount t a) (effectDraws t a)) drawRoom
+    resetsFormed t a and leb (effectCount t a) effectRoom and allBelow (effectCount t a) (effectFormed t a) and
+    leb (sumBelow (effectCount t a) (effectDraws t a)) drawRoom
 
 -- communications reset nothing; a message has room for few values
 unfoldable pub expressionFormed : List ℕ → ℕ → ℕ → Bool
@@ -79,7 +94,8 @@ expressionFormed t a e = leb (effectLength t a e) itemRoom and isTyped (typeOf (
 
 unfoldable pub sendFormed : List ℕ → ℕ → Bool
 sendFormed t a =
-    eqb (resetCount t a) 0 and leb (effectCount t a) messageRoom and allBelow (effectCount t a) (expressionFormed t a) and leb (sumBelow (effectCount t a) (effectDraws t a)) drawRoom
+    eqb (resetCount t a) 0 and leb (effectCount t a) messageRoom and allBelow (effectCount t a) (expressionFormed t a) and
+    leb (sumBelow (effectCount t a) (effectDraws t a)) drawRoom
 
 unfoldable pub targetFormed : List ℕ → ℕ → ℕ → Bool
 targetFormed t a e = ltb (effectVar t a e) (variableCount t)
@@ -107,7 +123,7 @@ keyBefore t (suc k) = keyOf t k
 unfoldable pub guardFormed : List ℕ → ℕ → Bool
 guardFormed t k =
     cond (eqb (guardLength t k) 0) true
-    (leb (guardLength t k) itemRoom and typedAs 0 (typeOf (kindsOf t) (guardItems t k)) and eqb (drawsOf (guardItems t k)) 0)
+    (leb (guardLength t k) itemRoom and typedAs booleanKind (typeOf (kindsOf t) (guardItems t k)) and eqb (drawsOf (guardItems t k)) 0)
 
 unfoldable pub transitionFormed : List ℕ → ℕ → Bool
 transitionFormed t k =
@@ -116,7 +132,8 @@ transitionFormed t k =
 -- ---- the whole table; while it is being built it may lack a process
 unfoldable pub partsFormed : List ℕ → Bool
 partsFormed t =
-    allBelow (variableCount t) (variableFormed t) and allBelow (locationCount t) (locationFormed t) and allBelow (processCount t) (processFormed t) and
+    allBelow (variableCount t) (variableFormed t) and allBelow (locationCount t) (locationFormed t) and
+    allBelow (processCount t) (processFormed t) and
     allBelow (actionCount t) (actionFormed t) and allBelow (transitionCount t) (transitionFormed t)
 
 unfoldable pub startedOf : List ℕ → Bool → Bool

@@ -138,6 +138,23 @@ guardSlot k = guardsStart + itemRoom * k
 abbrev pub effectSlot : ℕ → ℕ → ℕ
 effectSlot a e = effectsStart + itemRoom * (actionRoom * e + a)
 
+-- ---- a bound's word is time * boundSpan + its kind
+abbrev pub boundSpan : ℕ
+boundSpan = 4
+
+abbrev pub unboundedKind : ℕ
+unboundedKind = 0
+
+abbrev pub includedKind : ℕ
+includedKind = 1
+
+abbrev pub excludedKind : ℕ
+excludedKind = 2
+
+-- no bound is of the last kind that there is room for
+abbrev pub spareKind : ℕ
+spareKind = 3
+
 -- ---- a key is (pre * word32 + action) * postSpan + post
 abbrev pub postSpan : ℕ
 postSpan = 32

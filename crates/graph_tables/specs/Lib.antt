@@ -7,3 +7,5 @@ pub mod Words
 pub mod RunWords
 pub mod Formed
 pub mod Sound
+pub mod Messages
+pub mod Inner

@@ -42,7 +42,8 @@ numberOf R.BadState = 32
 -- The refusals in the order of their numbers, and the one of a number from 1 to 32.
 abbrev pub refusals : List Refusal
 refusals =
-    R.MissingAction ∷ R.MissingClock ∷ R.MissingLocation ∷ R.MissingVar ∷ R.TypeMismatch ∷ R.«Type» ∷ R.MismatchingPostStates ∷ R.UnsatisfiedGuard ∷
+    R.MissingAction ∷ R.MissingClock ∷ R.MissingLocation ∷ R.MissingVar ∷ R.TypeMismatch ∷ R.«Type» ∷
+    R.MismatchingPostStates ∷ R.UnsatisfiedGuard ∷
     R.Invariant ∷ R.NoEffects ∷ R.EffectOnSend ∷ R.EffectOnReceive ∷ R.Communication ∷ R.NotSend ∷ R.NotReceive ∷ R.Sync ∷
     R.MissingPg ∷ R.ActionNotInPg ∷ R.LocationNotInPg ∷ R.OutOfCapacity ∷ R.Empty ∷ R.NotEmpty ∷ R.NotFull ∷ R.ProbingHandshakeChannel ∷
     R.ProbingInfiniteQueue ∷ R.Overflow ∷ R.NoRoom ∷ R.TableFull ∷ R.NoProcess ∷ R.MissingChannel ∷ R.ChannelTooLarge ∷ R.BadState ∷ []

@@ -53,6 +53,13 @@ word32 = 4294967296
 abbrev pub lastTime : ℕ
 lastTime = 4294967295
 
+-- ---- what a variable is
+abbrev pub booleanKind : ℕ
+booleanKind = 0
+
+abbrev pub integerKind : ℕ
+integerKind = 1
+
 -- ---- what an action is
 abbrev pub plainKind : ℕ
 plainKind = 0
@@ -62,3 +69,7 @@ sendKind = 1
 
 abbrev pub receiveKind : ℕ
 receiveKind = 2
+
+-- what stands for a kind where there is none: no word of a kind
+abbrev pub noKind : ℕ
+noKind = 2

@@ -11,8 +11,14 @@ use Rattle.grammar.specs.Typing.{typeOf}
 use Rattle.grammar.specs.declared.values.«Type».{«Type» as Kind}
 use Rattle.grammar.specs.declared.values.«Type».the-variants as Kind
 use Rattle.grammar.specs.declared.typing.Typed.the-variants.{Known}
-use Rattle.graph_tables.specs.Sizes.{processRoom, locationRoom, actionRoom, transitionRoom, variableRoom, clockRoom, limitRoom, effectRoom, resetRoom, drawRoom, messageRoom, itemRoom, word32, plainKind, sendKind, receiveKind}
-use Rattle.graph_tables.specs.Words.{Words, variableCount, clockCount, locationCount, actionCount, processCount, transitionCount, kindAt, kindsOf, valueAt, placeAt, invariantCount, actionKind, resetCount, effectCount, resetAt, effectVar, effectLength, keyOf, guardLength, limitCount, preOf, actionOf, postOf, clockOf, lowerOf, upperOf, limitRange, guardItems, effectItems, epsilon, invariantGroup}
+use Rattle.graph_tables.specs.Sizes.{processRoom, locationRoom, actionRoom, transitionRoom, variableRoom, clockRoom, limitRoom}
+use Rattle.graph_tables.specs.Sizes.{effectRoom, resetRoom, drawRoom, messageRoom, itemRoom, word32}
+use Rattle.graph_tables.specs.Sizes.{booleanKind, plainKind, sendKind, receiveKind}
+use Rattle.graph_tables.specs.Layout.{boundSpan}
+use Rattle.graph_tables.specs.Words.{Words, variableCount, clockCount, locationCount, actionCount, processCount, transitionCount}
+use Rattle.graph_tables.specs.Words.{kindAt, kindsOf, valueAt, placeAt, invariantCount, actionKind, resetCount, effectCount, resetAt}
+use Rattle.graph_tables.specs.Words.{effectVar, effectLength, keyOf, guardLength, limitCount, preOf, actionOf, postOf, clockOf}
+use Rattle.graph_tables.specs.Words.{lowerOf, upperOf, limitRange, guardItems, effectItems, epsilon, invariantGroup}
 use Rattle.graph_tables.specs.Formed.{effectDraws}
 
 -- no count is above its size
@@ -31,11 +37,15 @@ pub record VariableSound (t : List ℕ) (v : ℕ) : Type 0 where
   -- its value has 32 bits
   pub fits : valueAt t v < word32
   -- a boolean is 0 or 1
-  pub truth : kindAt t v ≡ 0 → valueAt t v < 2
+  pub truth : kindAt t v ≡ booleanKind → valueAt t v < 2
+
+-- each variable is of a kind
+abbrev pub KindsFit : List ℕ → Type 0
+KindsFit t = (v : ℕ) → v < variableCount t → kindAt t v < 2
 
 -- the times of a limit's bounds fit
 abbrev pub BoundsFit : List ℕ → ℕ → ℕ → Type 0
-BoundsFit t g i = (lowerOf t g i / 4 < word32) × (upperOf t g i / 4 < word32)
+BoundsFit t g i = (lowerOf t g i / boundSpan < word32) × (upperOf t g i / boundSpan < word32)
 
 -- the n limits of group g
 pub record LimitsSound (t : List ℕ) (g n : ℕ) : Type 0 where

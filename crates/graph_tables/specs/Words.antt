@@ -6,7 +6,11 @@ use mathlib.Core.Path.{_≡_}
 use lib.Dec.{eqb}
 use lib.ListN.{length, getD, take, drop}
 use Rattle.graph_tables.specs.Sizes.{transitionRoom, word32}
-use Rattle.graph_tables.specs.Layout.{tableWords, variablesCell, clocksCell, locationsCell, actionsCell, processesCell, transitionsCell, kindsStart, kindCell, valueCell, placeCell, invariantsCell, actionRow, resetsCell, effectsCell, resetCell, varCell, lengthCell, transitionRow, guardCell, limitsCell, limitRow, lowerCell, upperCell, guardSlot, effectSlot, preSpan, postSpan}
+use Rattle.graph_tables.specs.Layout.{tableWords, variablesCell, clocksCell, locationsCell, actionsCell, processesCell}
+use Rattle.graph_tables.specs.Layout.{transitionsCell, kindsStart, kindCell, valueCell, placeCell, invariantsCell, actionRow}
+use Rattle.graph_tables.specs.Layout.{resetsCell, effectsCell, resetCell, varCell, lengthCell, transitionRow, guardCell, limitsCell}
+use Rattle.graph_tables.specs.Layout.{limitRow, lowerCell, upperCell, guardSlot, effectSlot, preSpan, postSpan}
+use Rattle.graph_tables.specs.Layout.{boundSpan, unboundedKind, includedKind, excludedKind}
 use Rattle.time.specs.Time.{rangeOf}
 use Rattle.time.specs.declared.Bound.{Bound}
 use Rattle.time.specs.declared.Bound.the-variants.{Included, Excluded, Unbounded}
@@ -110,14 +114,16 @@ lowerOf t g i = getD t (lowerCell g i) 0
 abbrev pub upperOf : List ℕ → ℕ → ℕ → ℕ
 upperOf t g i = getD t (upperCell g i) 0
 
--- a bound's word: 0 for none, else its time above two bits, 1 included and 2 excluded
+-- a bound's word: its time and its kind
 abbrev pub boundOf : ℕ → Bound
-boundOf w = cond (eqb (w % 4) 1) (Included (w / 4)) (cond (eqb (w % 4) 2) (Excluded (w / 4)) Unbounded)
+boundOf w =
+    cond (eqb (w % boundSpan) includedKind) (Included (w / boundSpan))
+    (cond (eqb (w % boundSpan) excludedKind) (Excluded (w / boundSpan)) Unbounded)
 
 abbrev pub boundWord : Bound → ℕ
-boundWord (Included n) = n * 4 + 1
-boundWord (Excluded n) = n * 4 + 2
-boundWord Unbounded = 0
+boundWord (Included n) = n * boundSpan + includedKind
+boundWord (Excluded n) = n * boundSpan + excludedKind
+boundWord Unbounded = unboundedKind
 
 abbrev pub limitRange : List ℕ → ℕ → ℕ → TimeRange
 limitRange t g i = rangeOf (boundOf (lowerOf t g i)) (boundOf (upperOf t g i))

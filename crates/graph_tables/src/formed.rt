@@ -1,18 +1,26 @@
 // The test behind refusal 32: whether a table that is handed in is well formed. Its cost goes by what is used: no unused
 // row or word is read.
 use crate::inner;
+use crate::inner::places;
 use crate::inner::tests;
 use crate::layout;
 use crate::sizes;
-use grammar::typing;
+use grammar::inner::digits;
 ghost use mathlib.Core.Path.{_≡_};
 ghost use mathlib.Core.Bool.{true};
-ghost use Prim.Native.Nat.{_≤_, _<_};
+ghost use Prim.Native.Nat.{_+_, _≤_, _<_};
 ghost use Rattle.laws.specs.Below.{allBelow};
-ghost use Rattle.graph_tables.specs.Sizes.{processRoom, locationRoom, actionRoom, transitionRoom, variableRoom, limitRoom, groupRoom, effectRoom, resetRoom};
-ghost use Rattle.graph_tables.specs.Words.{Words, variableCount, locationCount};
-ghost use Rattle.graph_tables.specs.Formed.{countsFormed, variableFormed, boundFormed, clockBefore, limitFormed, limitsFormed, locationFormed, processFormed, resetBefore, resetFormed, resetsFormed, effectFormed, plainFormed, expressionFormed, sendFormed, targetFormed, receiveFormed, actionFormed, keyFormed, keyBefore, guardFormed, transitionFormed, partsFormed, startedOf, wellFormed};
-ghost use Rattle.graph_tables.specs.Sound.{Counted};
+ghost use Rattle.graph_tables.specs.Sizes.{processRoom, locationRoom, actionRoom, transitionRoom, variableRoom, limitRoom, groupRoom};
+ghost use Rattle.graph_tables.specs.Sizes.{effectRoom, resetRoom, itemRoom};
+ghost use Rattle.graph_tables.specs.Words.{Words, variableCount, locationCount, effectLength};
+ghost use Rattle.graph_tables.specs.Layout.{tableWords, effectSlot};
+ghost use Rattle.graph_tables.specs.Formed.{countsFormed, variableFormed, boundFormed, clockBefore, limitFormed, limitsFormed};
+ghost use Rattle.graph_tables.specs.Formed.{locationFormed, processFormed, resetBefore, resetFormed, resetsFormed, effectFormed};
+ghost use Rattle.graph_tables.specs.Formed.{effectDraws, plainFormed, expressionFormed, sendFormed, targetFormed, receiveFormed};
+ghost use Rattle.graph_tables.specs.Formed.{actionFormed, keyFormed, keyBefore, guardFormed, transitionFormed, partsFormed};
+ghost use Rattle.graph_tables.specs.Formed.{startedOf, wellFormed};
+ghost use Rattle.graph_tables.specs.Sound.{Counted, KindsFit};
+ghost use Rattle.graph_tables.specs.Inner.{knownAt, drawsIf, allWithin};
 
 fn counts_formed(t: &[u64]) -> bool
     requires { ⌜ Words (now t) ⌝ }
@@ -42,10 +50,10 @@ fn variable_formed(t: &[u64], v: usize) -> bool
 {
     let kind = inner::kind_at(t, v);
     let value = inner::value_at(t, v);
-    if kind == 0 {
+    if kind == layout::BOOLEAN {
         return value < 2;
     }
-    if kind != 1 {
+    if kind != layout::INTEGER {
         return false;
     }
     value < layout::WORD32
@@ -54,17 +62,17 @@ fn variable_formed(t: &[u64], v: usize) -> bool
 fn bound_formed(w: u64) -> bool
     ensures { λ r. ⌜ r ≡ boundFormed w ⌝ }
 {
-    if w == 0 {
+    if w == layout::UNBOUNDED {
         return true;
     }
-    let kind = w % 4;
-    if kind == 0 {
+    let kind = w % layout::BOUND_SPAN;
+    if kind == layout::UNBOUNDED {
         return false;
     }
-    if kind == 3 {
+    if kind == layout::SPARE {
         return false;
     }
-    w / 4 < layout::WORD32
+    w / layout::BOUND_SPAN < layout::WORD32
 }
 
 fn clock_before(t: &[u64], g: usize, i: usize) -> usize
@@ -120,11 +128,18 @@ fn location_formed(t: &[u64], l: usize) -> bool
     requires { ⌜ Words (now t) × (l < locationRoom) ⌝ }
     ensures { λ r. ⌜ r ≡ locationFormed (now (t .entry)) l ⌝ }
 {
-    limits_formed(t, inner::invariant_group(l), inner::invariant_count(t, l))
+    let n = inner::invariant_count(t, l);
+    if n == 0 {
+        return true;
+    }
+    limits_formed(t, inner::invariant_group(l), n)
 }
 
 fn process_formed(t: &[u64], p: usize) -> bool
-    requires { ⌜ Words (now t) × (p < processRoom) × (locationCount (now t) ≤ locationRoom) × (allBelow (locationCount (now t)) (locationFormed (now t)) ≡ true) ⌝ }
+    requires {
+        ⌜ Words (now t) × (p < processRoom) × (locationCount (now t) ≤ locationRoom)
+        × (allBelow (locationCount (now t)) (locationFormed (now t)) ≡ true) ⌝
+    }
     ensures { λ r. ⌜ r ≡ processFormed (now (t .entry)) p ⌝ }
 {
     let l = inner::place_at(t, p);
@@ -178,35 +193,57 @@ fn resets_formed(t: &[u64], a: usize) -> bool
     all_resets_formed(t, a, n)
 }
 
-fn effect_formed(t: &[u64], a: usize, e: usize) -> bool
-    requires { ⌜ Words (now t) × (variableCount (now t) ≤ variableRoom) × (a < actionRoom) × (e < effectRoom) ⌝ }
-    ensures { λ r. ⌜ r ≡ effectFormed (now (t .entry)) a e ⌝ }
+// An expression of n items: what `digits` tells of it.
+fn known_at(t: &[u64], n: usize, from: usize) -> u64
+    requires { ⌜ Words (now t) × (variableCount (now t) ≤ variableRoom) × KindsFit (now t) × (from + itemRoom ≤ tableWords) ⌝ }
+    ensures { λ r. ⌜ r ≡ knownAt (now (t .entry)) n from ⌝ }
+{
+    if sizes::ITEMS < n {
+        return digits::REFUSED;
+    }
+    digits::known_in(t, from, n, layout::KINDS_START, inner::variable_count(t))
+}
+
+fn known_effect(t: &[u64], a: usize, e: usize) -> u64
+    requires { ⌜ Words (now t) × (variableCount (now t) ≤ variableRoom) × KindsFit (now t) × (a < actionRoom) × (e < effectRoom) ⌝ }
+    ensures { λ r. ⌜ r ≡ knownAt (now (t .entry)) (effectLength (now (t .entry)) a e) (effectSlot a e) ⌝ }
+{
+    known_at(t, inner::effect_length(t, a, e), places::effect_slot(a, e))
+}
+
+// The draws of an effect, and of an expression of a message; more than there is room for, where it is not well formed.
+fn effect_draws(t: &[u64], a: usize, e: usize) -> usize
+    requires { ⌜ Words (now t) × (variableCount (now t) ≤ variableRoom) × KindsFit (now t) × (a < actionRoom) × (e < effectRoom) ⌝ }
+    ensures { λ r. ⌜ r ≡ drawsIf (effectFormed (now (t .entry)) a e) (effectDraws (now (t .entry)) a e) ⌝ }
 {
     let v = inner::effect_var(t, a, e);
     if inner::variable_count(t) <= v {
-        return false;
+        return sizes::DRAWS + 1;
     }
-    if sizes::ITEMS < inner::effect_length(t, a, e) {
-        return false;
+    let known = known_effect(t, a, e);
+    if !digits::is_of(known, inner::kind_at(t, v)) {
+        return sizes::DRAWS + 1;
     }
-    let wanted = inner::kind_at(t, v);
-    typing::type_of(inner::effect_items(t, a, e), inner::kinds_of(t)).typed_as(wanted)
+    digits::draws_in(known)
 }
 
-fn all_effects_formed(t: &[u64], a: usize, n: usize) -> bool
-    requires { ⌜ Words (now t) × (variableCount (now t) ≤ variableRoom) × (a < actionRoom) × (n ≤ effectRoom) ⌝ }
-    ensures { λ r. ⌜ r ≡ allBelow n (effectFormed (now (t .entry)) a) ⌝ }
+fn effects_formed(t: &[u64], a: usize, n: usize) -> bool
+    requires { ⌜ Words (now t) × (variableCount (now t) ≤ variableRoom) × KindsFit (now t) × (a < actionRoom) × (n ≤ effectRoom) ⌝ }
+    ensures { λ r. ⌜ r ≡ allWithin n (effectFormed (now (t .entry)) a) (effectDraws (now (t .entry)) a) ⌝ }
 {
-    for i in 0..n {
-        if !effect_formed(t, a, i) {
+    let mut sum: usize = 0;
+    for e in 0..n {
+        let draws = effect_draws(t, a, e);
+        if sizes::DRAWS < draws {
             return false;
         }
+        sum += draws;
     }
-    true
+    sum <= sizes::DRAWS
 }
 
 fn plain_formed(t: &[u64], a: usize) -> bool
-    requires { ⌜ Words (now t) × (variableCount (now t) ≤ variableRoom) × (a < actionRoom) ⌝ }
+    requires { ⌜ Words (now t) × (variableCount (now t) ≤ variableRoom) × KindsFit (now t) × (a < actionRoom) ⌝ }
     ensures { λ r. ⌜ r ≡ plainFormed (now (t .entry)) a ⌝ }
 {
     if !resets_formed(t, a) {
@@ -216,36 +253,37 @@ fn plain_formed(t: &[u64], a: usize) -> bool
     if sizes::EFFECTS < n {
         return false;
     }
-    if !all_effects_formed(t, a, n) {
-        return false;
-    }
-    tests::all_draws(t, a, n) <= sizes::DRAWS
+    effects_formed(t, a, n)
 }
 
-fn expression_formed(t: &[u64], a: usize, e: usize) -> bool
-    requires { ⌜ Words (now t) × (variableCount (now t) ≤ variableRoom) × (a < actionRoom) × (e < effectRoom) ⌝ }
-    ensures { λ r. ⌜ r ≡ expressionFormed (now (t .entry)) a e ⌝ }
+fn expression_draws(t: &[u64], a: usize, e: usize) -> usize
+    requires { ⌜ Words (now t) × (variableCount (now t) ≤ variableRoom) × KindsFit (now t) × (a < actionRoom) × (e < effectRoom) ⌝ }
+    ensures { λ r. ⌜ r ≡ drawsIf (expressionFormed (now (t .entry)) a e) (effectDraws (now (t .entry)) a e) ⌝ }
 {
-    if sizes::ITEMS < inner::effect_length(t, a, e) {
-        return false;
+    let known = known_effect(t, a, e);
+    if !digits::is_known(known) {
+        return sizes::DRAWS + 1;
     }
-    typing::type_of(inner::effect_items(t, a, e), inner::kinds_of(t)).is_typed()
+    digits::draws_in(known)
 }
 
-fn all_expressions_formed(t: &[u64], a: usize, n: usize) -> bool
-    requires { ⌜ Words (now t) × (variableCount (now t) ≤ variableRoom) × (a < actionRoom) × (n ≤ effectRoom) ⌝ }
-    ensures { λ r. ⌜ r ≡ allBelow n (expressionFormed (now (t .entry)) a) ⌝ }
+fn expressions_formed(t: &[u64], a: usize, n: usize) -> bool
+    requires { ⌜ Words (now t) × (variableCount (now t) ≤ variableRoom) × KindsFit (now t) × (a < actionRoom) × (n ≤ effectRoom) ⌝ }
+    ensures { λ r. ⌜ r ≡ allWithin n (expressionFormed (now (t .entry)) a) (effectDraws (now (t .entry)) a) ⌝ }
 {
-    for i in 0..n {
-        if !expression_formed(t, a, i) {
+    let mut sum: usize = 0;
+    for e in 0..n {
+        let draws = expression_draws(t, a, e);
+        if sizes::DRAWS < draws {
             return false;
         }
+        sum += draws;
     }
-    true
+    sum <= sizes::DRAWS
 }
 
 fn send_formed(t: &[u64], a: usize) -> bool
-    requires { ⌜ Words (now t) × (variableCount (now t) ≤ variableRoom) × (a < actionRoom) ⌝ }
+    requires { ⌜ Words (now t) × (variableCount (now t) ≤ variableRoom) × KindsFit (now t) × (a < actionRoom) ⌝ }
     ensures { λ r. ⌜ r ≡ sendFormed (now (t .entry)) a ⌝ }
 {
     if inner::reset_count(t, a) != 0 {
@@ -255,10 +293,7 @@ fn send_formed(t: &[u64], a: usize) -> bool
     if sizes::MESSAGE < n {
         return false;
     }
-    if !all_expressions_formed(t, a, n) {
-        return false;
-    }
-    tests::all_draws(t, a, n) <= sizes::DRAWS
+    expressions_formed(t, a, n)
 }
 
 fn target_formed(t: &[u64], a: usize, e: usize) -> bool
@@ -295,7 +330,7 @@ fn receive_formed(t: &[u64], a: usize) -> bool
 }
 
 fn action_formed(t: &[u64], a: usize) -> bool
-    requires { ⌜ Words (now t) × (variableCount (now t) ≤ variableRoom) × (a < actionRoom) ⌝ }
+    requires { ⌜ Words (now t) × (variableCount (now t) ≤ variableRoom) × KindsFit (now t) × (a < actionRoom) ⌝ }
     ensures { λ r. ⌜ r ≡ actionFormed (now (t .entry)) a ⌝ }
 {
     let kind = inner::action_kind(t, a);
@@ -336,27 +371,14 @@ fn key_before(t: &[u64], k: usize) -> u64
 }
 
 fn guard_formed(t: &[u64], k: usize) -> bool
-    requires { ⌜ Words (now t) × (variableCount (now t) ≤ variableRoom) × (k < transitionRoom) ⌝ }
+    requires { ⌜ Words (now t) × (variableCount (now t) ≤ variableRoom) × KindsFit (now t) × (k < transitionRoom) ⌝ }
     ensures { λ r. ⌜ r ≡ guardFormed (now (t .entry)) k ⌝ }
 {
-    let n = inner::guard_length(t, k);
-    if n == 0 {
-        return true;
-    }
-    if sizes::ITEMS < n {
-        return false;
-    }
-    let items = inner::guard_items(t, k);
-    let judged = typing::judge(items, inner::kinds_of(t));
-    let typed = judged.typed;
-    if !typed.typed_as(0) {
-        return false;
-    }
-    judged.draws == 0
+    digits::guards(known_at(t, inner::guard_length(t, k), places::guard_slot(k)))
 }
 
 fn transition_formed(t: &[u64], k: usize) -> bool
-    requires { ⌜ Words (now t) × (variableCount (now t) ≤ variableRoom) × (k < transitionRoom) ⌝ }
+    requires { ⌜ Words (now t) × (variableCount (now t) ≤ variableRoom) × KindsFit (now t) × (k < transitionRoom) ⌝ }
     ensures { λ r. ⌜ r ≡ transitionFormed (now (t .entry)) k ⌝ }
 {
     let key = inner::key_of(t, k);
@@ -369,7 +391,11 @@ fn transition_formed(t: &[u64], k: usize) -> bool
     if !guard_formed(t, k) {
         return false;
     }
-    limits_formed(t, k, inner::limit_count(t, k))
+    let n = inner::limit_count(t, k);
+    if n == 0 {
+        return true;
+    }
+    limits_formed(t, k, n)
 }
 
 fn all_variables_formed(t: &[u64], n: usize) -> bool
@@ -397,7 +423,10 @@ fn all_locations_formed(t: &[u64], n: usize) -> bool
 }
 
 fn all_processes_formed(t: &[u64], n: usize) -> bool
-    requires { ⌜ Words (now t) × (n ≤ processRoom) × (locationCount (now t) ≤ locationRoom) × (allBelow (locationCount (now t)) (locationFormed (now t)) ≡ true) ⌝ }
+    requires {
+        ⌜ Words (now t) × (n ≤ processRoom) × (locationCount (now t) ≤ locationRoom)
+        × (allBelow (locationCount (now t)) (locationFormed (now t)) ≡ true) ⌝
+    }
     ensures { λ r. ⌜ r ≡ allBelow n (processFormed (now (t .entry))) ⌝ }
 {
     for i in 0..n {
@@ -409,7 +438,7 @@ fn all_processes_formed(t: &[u64], n: usize) -> bool
 }
 
 fn all_actions_formed(t: &[u64], n: usize) -> bool
-    requires { ⌜ Words (now t) × (variableCount (now t) ≤ variableRoom) × (n ≤ actionRoom) ⌝ }
+    requires { ⌜ Words (now t) × (variableCount (now t) ≤ variableRoom) × KindsFit (now t) × (n ≤ actionRoom) ⌝ }
     ensures { λ r. ⌜ r ≡ allBelow n (actionFormed (now (t .entry))) ⌝ }
 {
     for i in 0..n {
@@ -421,7 +450,7 @@ fn all_actions_formed(t: &[u64], n: usize) -> bool
 }
 
 fn all_transitions_formed(t: &[u64], n: usize) -> bool
-    requires { ⌜ Words (now t) × (variableCount (now t) ≤ variableRoom) × (n ≤ transitionRoom) ⌝ }
+    requires { ⌜ Words (now t) × (variableCount (now t) ≤ variableRoom) × KindsFit (now t) × (n ≤ transitionRoom) ⌝ }
     ensures { λ r. ⌜ r ≡ allBelow n (transitionFormed (now (t .entry))) ⌝ }
 {
     for i in 0..n {

@@ -1,5 +1,6 @@
 // The words of a graph, by name: read here, written and placed in the modules below. Each function asks for a table of the
 // right length and a number within its size; what stands there may be anything.
+pub mod messages;
 pub mod places;
 pub mod tests;
 pub mod writers;
@@ -10,9 +11,15 @@ use time::Bound;
 use time::TimeRange;
 ghost use mathlib.Core.Path.{_≡_};
 ghost use Prim.Native.Nat.{ℕ, _/_, _≤_, _<_};
-ghost use Rattle.graph_tables.specs.Words.{Words, variableCount, clockCount, locationCount, actionCount, processCount, transitionCount, kindAt, kindsOf, valueAt, placeAt, invariantCount, actionKind, resetCount, effectCount, resetAt, effectVar, effectLength, keyOf, guardLength, limitCount, preOf, actionOf, postOf, keyWith, invariantGroup, clockOf, lowerOf, upperOf, boundOf, boundWord, limitRange, guardItems, effectItems};
-ghost use Rattle.graph_tables.specs.Sizes.{variableRoom, processRoom, locationRoom, actionRoom, transitionRoom, groupRoom, limitRoom, resetRoom, effectRoom, itemRoom, word32};
-ghost use Rattle.graph_tables.specs.Layout.{postSpan};
+ghost use Rattle.graph_tables.specs.Words.{Words, variableCount, clockCount, locationCount, actionCount, processCount};
+ghost use Rattle.graph_tables.specs.Words.{transitionCount, kindAt, kindsOf, valueAt, placeAt, invariantCount, actionKind};
+ghost use Rattle.graph_tables.specs.Words.{resetCount, effectCount, resetAt, effectVar, effectLength, keyOf, guardLength, limitCount};
+ghost use Rattle.graph_tables.specs.Words.{preOf, actionOf, postOf, keyWith, invariantGroup, clockOf, lowerOf, upperOf, boundOf};
+ghost use Rattle.graph_tables.specs.Words.{boundWord, limitRange, guardItems, effectItems};
+ghost use Rattle.graph_tables.specs.Sizes.{variableRoom, processRoom, locationRoom, actionRoom, transitionRoom, groupRoom, limitRoom};
+ghost use Rattle.graph_tables.specs.Sizes.{resetRoom, effectRoom, itemRoom, word32};
+ghost use Rattle.graph_tables.specs.Layout.{postSpan, boundSpan};
+ghost use Rattle.time.specs.Time.{lowerMet, upperMet};
 ghost use Rattle.graph_tables.specs.Sound.{BoundsFit};
 
 pub fn variable_count(t: &[u64]) -> usize
@@ -205,15 +212,15 @@ pub fn upper_of(t: &[u64], g: usize, i: usize) -> u64
 
 // The bound that a word stands for, and the word of a bound.
 pub fn bound_of(w: u64) -> Bound
-    requires { ⌜ w / 4 < word32 ⌝ }
+    requires { ⌜ w / boundSpan < word32 ⌝ }
     ensures { λ r. ⌜ r ≡ boundOf w ⌝ }
 {
-    let kind = w % 4;
-    if kind == 1 {
-        return Bound::Included((w / 4) as u32);
+    let kind = w % layout::BOUND_SPAN;
+    if kind == layout::INCLUDED {
+        return Bound::Included((w / layout::BOUND_SPAN) as u32);
     }
-    if kind == 2 {
-        return Bound::Excluded((w / 4) as u32);
+    if kind == layout::EXCLUDED {
+        return Bound::Excluded((w / layout::BOUND_SPAN) as u32);
     }
     Bound::Unbounded
 }
@@ -222,10 +229,37 @@ pub fn bound_word(b: Bound) -> u64
     ensures { λ r. ⌜ r ≡ boundWord b ⌝ }
 {
     match b {
-        Bound::Included(n) => (n as u64) * 4 + 1,
-        Bound::Excluded(n) => (n as u64) * 4 + 2,
-        Bound::Unbounded => 0,
+        Bound::Included(n) => (n as u64) * layout::BOUND_SPAN + layout::INCLUDED,
+        Bound::Excluded(n) => (n as u64) * layout::BOUND_SPAN + layout::EXCLUDED,
+        Bound::Unbounded => layout::UNBOUNDED,
     }
+}
+
+// The lower bound that a word stands for is met at a time, and so is the upper one.
+pub fn lower_met(w: u64, time: u64) -> bool
+    ensures { λ r. ⌜ r ≡ lowerMet (boundOf w) time ⌝ }
+{
+    let kind = w % layout::BOUND_SPAN;
+    if kind == layout::INCLUDED {
+        return w / layout::BOUND_SPAN <= time;
+    }
+    if kind == layout::EXCLUDED {
+        return w / layout::BOUND_SPAN < time;
+    }
+    true
+}
+
+pub fn upper_met(w: u64, time: u64) -> bool
+    ensures { λ r. ⌜ r ≡ upperMet (boundOf w) time ⌝ }
+{
+    let kind = w % layout::BOUND_SPAN;
+    if kind == layout::INCLUDED {
+        return time <= w / layout::BOUND_SPAN;
+    }
+    if kind == layout::EXCLUDED {
+        return time < w / layout::BOUND_SPAN;
+    }
+    true
 }
 
 pub fn limit_range(t: &[u64], g: usize, i: usize) -> TimeRange

@@ -62,6 +62,22 @@ pub const LOWER: usize = 1;
 
 pub const UPPER: usize = 2;
 
+// What a variable is.
+pub const BOOLEAN: u64 = 0;
+
+pub const INTEGER: u64 = 1;
+
+// A bound's word is time * BOUND_SPAN + its kind. No bound is of the spare one.
+pub const BOUND_SPAN: u64 = 4;
+
+pub const UNBOUNDED: u64 = 0;
+
+pub const INCLUDED: u64 = 1;
+
+pub const EXCLUDED: u64 = 2;
+
+pub const SPARE: u64 = 3;
+
 // What an action is.
 pub const PLAIN: u64 = 0;
 
@@ -78,3 +94,6 @@ pub const PRE_SPAN: u64 = 137438953472;
 
 // Times and integers have 32 bits: they are below this.
 pub const WORD32: u64 = 4294967296;
+
+// What stands for a kind where there is none.
+pub const NO_KIND: u64 = 2;

@@ -21,7 +21,8 @@ module _ {A : Type 0} (d : A) where
   unfolding Filled
   filled-none to from j h = absurd (omega arith)
 
-  pub filled-more : (to from : List A) (n : ℕ) (x : A) → Filled to from n → n < length to → x ≡ getD from n d → Filled (set to n x) from (n + 1)
+  pub filled-more : (to from : List A) (n : ℕ) (x : A) → Filled to from n → n < length to → x ≡ getD from n d
+      → Filled (set to n x) from (n + 1)
   unfolding Filled
   filled-more to from n x f h e j l =
       ⊎-elim

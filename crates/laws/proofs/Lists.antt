@@ -14,7 +14,8 @@ pub done : {A : Type 0} (xs : List A) (at : ℕ) → length xs ≤ at → drop a
 done xs at h = drop-of-length-le xs h
 
 -- what holds of every element holds after a store of one of which it holds
-pub all-set : {A : Type 0} (P : A → Type 0) (d : A) (xs : List A) (i : ℕ) (v : A) → ((k : ℕ) → P (getD xs k d)) → P v → (k : ℕ) → P (getD (set xs i v) k d)
+pub all-set : {A : Type 0} (P : A → Type 0) (d : A) (xs : List A) (i : ℕ) (v : A) → ((k : ℕ) → P (getD xs k d)) → P v → (k : ℕ)
+    → P (getD (set xs i v) k d)
 all-set P d [] i v all p k = all k
 all-set P d (x ∷ xs) zero v all p zero = p
 all-set P d (x ∷ xs) zero v all p (suc k) = all (suc k)

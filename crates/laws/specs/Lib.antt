@@ -1,3 +1,4 @@
 pub mod Ladder
 pub mod Below
 pub mod Examples
+pub mod Determined

@@ -8,46 +8,9 @@ use Rattle.graph_tables.specs.Answers.{doneNumber}
 use Rattle.graph_tables.specs.declared.answers.Done.{Done}
 use Rattle.graph_tables.specs.declared.answers.Done.the-variants as Done
 use Rattle.graph_tables.specs.declared.refusals.Refusal.{Refusal}
-use Rattle.graph_tables.specs.declared.refusals.Refusal.the-variants as R
-use Rattle.graph_tables.specs.Refusals.{numberOf}
-use native.Mathlib.Omega.{arith}
+use Rattle.graph_tables.proofs.NumberLaws.{above-ok}
 use Rattle.program_graph.specs.Facts.{Ok, Not}
 use Rattle.program_graph.specs.declared.record.ProgramGraphRun.{ProgramGraphRun}
-
--- 0 is none of them
-number-positive : (r : Refusal) → numberOf r ≡ 0 → ⊥
-number-positive R.MissingAction e = omega arith
-number-positive R.MissingClock e = omega arith
-number-positive R.MissingLocation e = omega arith
-number-positive R.MissingVar e = omega arith
-number-positive R.TypeMismatch e = omega arith
-number-positive R.«Type» e = omega arith
-number-positive R.MismatchingPostStates e = omega arith
-number-positive R.UnsatisfiedGuard e = omega arith
-number-positive R.Invariant e = omega arith
-number-positive R.NoEffects e = omega arith
-number-positive R.EffectOnSend e = omega arith
-number-positive R.EffectOnReceive e = omega arith
-number-positive R.Communication e = omega arith
-number-positive R.NotSend e = omega arith
-number-positive R.NotReceive e = omega arith
-number-positive R.Sync e = omega arith
-number-positive R.MissingPg e = omega arith
-number-positive R.ActionNotInPg e = omega arith
-number-positive R.LocationNotInPg e = omega arith
-number-positive R.OutOfCapacity e = omega arith
-number-positive R.Empty e = omega arith
-number-positive R.NotEmpty e = omega arith
-number-positive R.NotFull e = omega arith
-number-positive R.ProbingHandshakeChannel e = omega arith
-number-positive R.ProbingInfiniteQueue e = omega arith
-number-positive R.Overflow e = omega arith
-number-positive R.NoRoom e = omega arith
-number-positive R.TableFull e = omega arith
-number-positive R.NoProcess e = omega arith
-number-positive R.MissingChannel e = omega arith
-number-positive R.ChannelTooLarge e = omega arith
-number-positive R.BadState e = omega arith
 
 pub accepted-ok : Ok Done.Accepted
 accepted-ok = record { number = refl }
@@ -56,7 +19,7 @@ pub is-ok : {d : Done} → d ≡ Done.Accepted → Ok d
 is-ok e = record { number = ap doneNumber e }
 
 pub not-ok : {P : Type 0} {r : Refusal} → Ok (Done.Refused r) → P
-not-ok {r = r} e = absurd (number-positive r (e .number))
+not-ok {r = r} e = absurd (above-ok r (e .number))
 
 -- an answer accepts or it does not
 pub answered : {P : Type 0} (d : Done) → (Ok d → P) → ((Ok d → ⊥) → P) → P
@@ -64,7 +27,8 @@ answered Done.Accepted f g = f accepted-ok
 answered (Done.Refused r) f g = g not-ok
 
 -- a number that neither the refusal of a rung nor the rest answers, the rung does not answer
-pub skip : {A : Type 0} (answer : A → Done) (n : ℕ) (b : Bool) (x rest : A) → Not n (answer x) → Not n (answer rest) → Not n (answer (unless b x rest))
+pub skip : {A : Type 0} (answer : A → Done) (n : ℕ) (b : Bool) (x rest : A) → Not n (answer x) → Not n (answer rest)
+    → Not n (answer (unless b x rest))
 skip answer n b x rest h k = rung (λ s. Not n (answer s)) b x rest h (λ e. k)
 
 -- what comes back of a call that is not accepted is the run that was handed in

@@ -1,6 +1,6 @@
 -- What a clock reads: the accepted waits since its last accepted reset.
 use Prim.Native.Nat.{ℕ, _+_, _<_}
-use mathlib.Core.Path.{_≡_, refl, sym, ap, _∙_}
+use mathlib.Core.Path.{_≡_, refl, ap, _∙_}
 use mathlib.Core.Bool.{Bool, true, false, cond}
 use mathlib.Core.List.{List, [], _∷_, _++_}
 use native.Mathlib.Omega.{arith}
@@ -8,7 +8,8 @@ use lib.ListN.{getD}
 use Rattle.graph_tables.specs.Words.{clockCount}
 use Rattle.graph_tables.specs.Formed.{wellFormed}
 use Rattle.program_graph.specs.Running.{newRunOf}
-use Rattle.program_graph.specs.RunChains.{RunCall, transition, wait, send, receive, answerTo, runAfter, runAfterAll, isAccepted, resetsClock, timeOn, sinceReset, deltaOf, acceptedWaits, resetBy, NoReset}
+use Rattle.program_graph.specs.RunChains.{RunCall, transition, wait, send, receive, answerTo, runAfter, runAfterAll, isAccepted}
+use Rattle.program_graph.specs.RunChains.{resetsClock, timeOn, sinceReset, deltaOf, acceptedWaits, resetBy, NoReset}
 use Rattle.program_graph.specs.declared.record.ProgramGraphRun.{ProgramGraphRun}
 use Rattle.program_graph.proofs.RunChains.{chain-clocks}
 
@@ -20,12 +21,14 @@ module _ (t : List ℕ) (c : ℕ) where
   moves-on (send a posts word) x n = omega arith
   moves-on (receive a posts m) x n = omega arith
 
-  one-call : (b : Bool) (call : RunCall) (x : ℕ) → (b ≡ true → resetBy t c call ≡ false) → cond b (timeOn t c call x) x ≡ x + cond b (deltaOf call) 0
+  pub one-call : (b : Bool) (call : RunCall) (x : ℕ) → (b ≡ true → resetBy t c call ≡ false)
+      → cond b (timeOn t c call x) x ≡ x + cond b (deltaOf call) 0
   one-call true call x n = moves-on call x (n refl)
   one-call false call x n = omega arith
 
   -- While nothing resets it a clock goes on by the accepted waits.
-  pub goes-on : (run : ProgramGraphRun) (calls : List RunCall) (x : ℕ) → NoReset t c run calls → sinceReset t c run calls x ≡ x + acceptedWaits t run calls
+  pub goes-on : (run : ProgramGraphRun) (calls : List RunCall) (x : ℕ) → NoReset t c run calls
+      → sinceReset t c run calls x ≡ x + acceptedWaits t run calls
   goes-on run [] x n = omega arith
   goes-on run (call ∷ calls) x n =
       goes-on (runAfter t run call) calls (cond (isAccepted (answerTo t run call)) (timeOn t c call x) x) (n .1)
@@ -35,7 +38,8 @@ module _ (t : List ℕ) (c : ℕ) where
   since-both : (run : ProgramGraphRun) (first second : List RunCall) (x : ℕ)
       → sinceReset t c run (first ++ second) x ≡ sinceReset t c (runAfterAll t run first) second (sinceReset t c run first x)
   since-both run [] second x = refl
-  since-both run (call ∷ calls) second x = since-both (runAfter t run call) calls second (cond (isAccepted (answerTo t run call)) (timeOn t c call x) x)
+  since-both run (call ∷ calls) second x =
+      since-both (runAfter t run call) calls second (cond (isAccepted (answerTo t run call)) (timeOn t c call x) x)
 
   -- an accepted step that resets the clock
   from-zero : (run : ProgramGraphRun) (a : ℕ) (posts : List ℕ) (word : ℕ) (calls : List RunCall) (x : ℕ)

@@ -1,3 +1,10 @@
+pub mod PartLaws
+pub mod WordLaws
+pub mod StoredLaws
+pub mod LeaveLaws
+pub mod OverLaws
+pub mod SmallLaws
+pub mod ValueLaws
 pub mod AnswerLaws
 pub mod SaidLaws
 pub mod RunLaws
@@ -9,5 +16,12 @@ pub mod RunTheorems
 pub mod RunKept
 pub mod RunChains
 pub mod ClockTheorems
+pub mod GrowingCounts
+pub mod GrowingMembers
+pub mod GrowingResets
+pub mod GrowingChains
+pub mod GrowingInvariants
+pub mod BuiltRuns
 pub mod MarkedLaws
 pub mod RunListed
+pub mod Determined

@@ -1,7 +1,7 @@
 -- What holds of a run after any chain of calls, from a fresh run of a well-formed table.
-use Prim.Native.Nat.{ℕ, _+_, _<_}
+use Prim.Native.Nat.{ℕ, _<_}
 use mathlib.Core.Path.{_≡_, refl, sym, ap, subst, _∙_}
-use mathlib.Core.Bool.{Bool, true, false, not, cond}
+use mathlib.Core.Bool.{true, false, not, cond}
 use native.Mathlib.Omega.{arith}
 use mathlib.Core.List.{List, [], _∷_}
 use native.Mathlib.Decide.{ℕ-discrete}
@@ -9,7 +9,6 @@ use borrow.Author.Tests.{eqb-true, eq-eqb, ne-eqb}
 use lib.Dec.{eqb}
 use lib.ListN.{getD, replicate}
 use Rattle.laws.specs.Below.{_and_}
-use Rattle.laws.specs.Ladder.{unless}
 use Rattle.laws.proofs.Ladder.{passed}
 use Rattle.laws.proofs.BelowLaws.{and-rest, and-both}
 use Rattle.laws.proofs.Lists.{all-replicate}
@@ -20,11 +19,13 @@ use Rattle.graph_tables.specs.Words.{clockCount, processCount, placeAt, resetCo
 use Rattle.graph_tables.specs.Formed.{wellFormed}
 use Rattle.graph_tables.specs.Sound.{Sound}
 use Rattle.graph_tables.proofs.SoundLaws.{sound}
-use Rattle.graph_steps.proofs.AnyLaws.{any-some, any-found}
+use Rattle.run_steps.proofs.AnyLaws.{any-some, any-found}
 use Rattle.program_graph.specs.Facts.{Sized, Ok, Not, InvariantsAt, Holding}
-use Rattle.program_graph.specs.Running.{refused, refusedWait, fitsTable, autonomousOf, plainOf, actedOf, stepOf, transitionOf, waitedOf, waitOf, freshRun, newRunOf}
+use Rattle.program_graph.specs.Running.{refused, refusedWait, fitsTable, autonomousOf, plainOf, actedOf, stepOf, transitionOf}
+use Rattle.program_graph.specs.Running.{waitedOf, waitOf, freshRun, newRunOf}
 use Rattle.program_graph.specs.Messaging.{refusedSend, refusedReceive, saidOf, sentOf, sendOf, heardOf, receivedOf, receiveOf}
-use Rattle.program_graph.specs.RunChains.{RunCall, transition, wait, send, receive, answerTo, runAfter, runAfterAll, isAccepted, resetIs, resetsClock, timeOn, sinceReset}
+use Rattle.program_graph.specs.RunChains.{RunCall, transition, wait, send, receive, answerTo, runAfter, runAfterAll, isAccepted}
+use Rattle.program_graph.specs.RunChains.{resetIs, resetsClock, timeOn, sinceReset}
 use Rattle.program_graph.specs.declared.record.ProgramGraphRun.{ProgramGraphRun}
 use Rattle.program_graph.specs.declared.answers.Stepped.{Stepped}
 use Rattle.program_graph.specs.declared.answers.Fresh.{Fresh}
@@ -34,12 +35,15 @@ use Rattle.program_graph.specs.declared.answers.Received.{Received}
 use Rattle.program_graph.proofs.RunLaws.{chosen, left-over, either-way}
 use Rattle.program_graph.proofs.RunKept.{transition-keeps, wait-keeps, send-keeps, receive-keeps, fresh-fits, start-at}
 use Rattle.program_graph.proofs.AnswerLaws.{answered, skip}
-use Rattle.program_graph.proofs.RunTheorems.{transition-refused, wait-refused, send-refused, receive-refused, step-holds, wait-holds, send-holds, receive-holds, autonomous-still, plain-resets, plain-other-clock, wait-moves, send-still, receive-clocks}
+use Rattle.program_graph.proofs.RunTheorems.{transition-refused, wait-refused, send-refused, receive-refused, step-holds, wait-holds}
+use Rattle.program_graph.proofs.RunTheorems.{send-holds, receive-holds, autonomous-still, plain-resets, plain-other-clock}
+use Rattle.program_graph.proofs.RunTheorems.{wait-moves, send-still, receive-clocks}
 
 -- ---- one call
 module _ (t : List ℕ) (run : ProgramGraphRun) where
   -- Every call keeps a run one of its table's, whatever it answers.
-  pub call-keeps : (call : RunCall) → fitsTable t run ≡ true → Sized run → (fitsTable t (runAfter t run call) ≡ true) × Sized (runAfter t run call)
+  pub call-keeps : (call : RunCall) → fitsTable t run ≡ true → Sized run
+      → (fitsTable t (runAfter t run call) ≡ true) × Sized (runAfter t run call)
   call-keeps (transition a posts word) = transition-keeps t run a posts word
   call-keeps (wait delta) = wait-keeps t run delta
   call-keeps (send a posts word) = send-keeps t run a posts word
@@ -78,7 +82,8 @@ module _ (t : List ℕ) (run : ProgramGraphRun) where
           either-way (λ (x : ℕ). getD (transitionOf t run a posts word .run .times) c 0 ≡ x) (resetsClock t a c) 0 (getD (run .times) c 0)
           (λ r.
           let s = any-some (resetIs t a c) (resetCount t a) (and-rest (not (eqb a epsilon)) _ r) in
-          subst (λ (x : ℕ). getD (transitionOf t run a posts word .run .times) x 0 ≡ 0) (eqb-true _ _ (s .2)) (plain-resets t run posts word a n e z (s .0) (s .1)))
+          subst (λ (x : ℕ). getD (transitionOf t run a posts word .run .times) x 0 ≡ 0) (eqb-true _ _ (s .2))
+          (plain-resets t run posts word a n e z (s .0) (s .1)))
           (λ r.
           plain-other-clock t run posts word a n e c (λ i l q.
           never (sym r ∙ and-both (ap not (ne-eqb a epsilon n)) (any-found (resetIs t a c) (resetCount t a) i l (eq-eqb _ _ q)))))
@@ -92,13 +97,15 @@ module _ (t : List ℕ) (run : ProgramGraphRun) where
   accepted-clock (receive a posts m) c e z l = ap (λ (x : List ℕ). getD x c 0) (receive-clocks t run a posts m e)
 
   -- and any call
-  call-clock : (call : RunCall) (c : ℕ) → Sized run → c < clockCount t
-      → getD (runAfter t run call .times) c 0 ≡ cond (isAccepted (answerTo t run call)) (timeOn t c call (getD (run .times) c 0)) (getD (run .times) c 0)
+  pub call-clock : (call : RunCall) (c : ℕ) → Sized run → c < clockCount t
+      → getD (runAfter t run call .times) c 0
+      ≡ cond (isAccepted (answerTo t run call)) (timeOn t c call (getD (run .times) c 0)) (getD (run .times) c 0)
   call-clock call c z l =
       let time : ℕ = getD (run .times) c 0 in
       answered (answerTo t run call)
       (λ e. chosen time (eq-eqb _ _ (e .number)) (accepted-clock call c e z l))
-      (λ n. left-over _ (ne-eqb _ _ (λ q. n (record { number = q }))) (ap (λ (x : ProgramGraphRun). getD (x .times) c 0) (call-refused call n)))
+      (λ n. left-over _ (ne-eqb _ _ (λ q. n (record { number = q })))
+      (ap (λ (x : ProgramGraphRun). getD (x .times) c 0) (call-refused call n)))
 
   -- ---- 32
   -- On a run that is one of its table's no call answers 32.
@@ -147,7 +154,8 @@ module _ (t : List ℕ) where
       let k = call-keeps t run call f z in
       chain-keeps (runAfter t run call) calls (k .0) (k .1)
 
-  chain-holds : (run : ProgramGraphRun) (calls : List RunCall) → fitsTable t run ≡ true → Sized run → Holding t run → Holding t (runAfterAll t run calls)
+  chain-holds : (run : ProgramGraphRun) (calls : List RunCall) → fitsTable t run ≡ true → Sized run → Holding t run
+      → Holding t (runAfterAll t run calls)
   chain-holds run [] f z h = h
   chain-holds run (call ∷ calls) f z h =
       let k = call-keeps t run call f z in
@@ -158,7 +166,8 @@ module _ (t : List ℕ) where
   chain-clock run [] c f z l = refl
   chain-clock run (call ∷ calls) c f z l =
       let k = call-keeps t run call f z in
-      chain-clock (runAfter t run call) calls c (k .0) (k .1) l ∙ ap (λ (x : ℕ). sinceReset t c (runAfter t run call) calls x) (call-clock t run call c z l)
+      chain-clock (runAfter t run call) calls c (k .0) (k .1) l
+      ∙ ap (λ (x : ℕ). sinceReset t c (runAfter t run call) calls x) (call-clock t run call c z l)
 
 -- ---- a chain, from a fresh run of a well-formed table
 module _ (t : List ℕ) (formed : wellFormed t false ≡ true) where
@@ -168,7 +177,7 @@ module _ (t : List ℕ) (formed : wellFormed t false ≡ true) where
   fresh = ap (λ (s : Fresh). s .run) (passed _ formed refl)
 
   -- whose clocks are all 0
-  zero-clock : (c : ℕ) → getD (newRunOf t .run .times) c 0 ≡ 0
+  pub zero-clock : (c : ℕ) → getD (newRunOf t .run .times) c 0 ≡ 0
   zero-clock c = subst (λ (r : ProgramGraphRun). getD (r .times) c 0 ≡ 0) fresh (all-replicate (λ (x : ℕ). x ≡ 0) 0 clockRoom 0 refl refl c)
 
   -- and whose processes are where time 0 is inside
@@ -178,10 +187,12 @@ module _ (t : List ℕ) (formed : wellFormed t false ≡ true) where
       subst (λ (r : ProgramGraphRun). Holding t r) fresh (λ p l.
       subst (λ (x : ℕ). InvariantsAt t (replicate clockRoom 0) x) (sym (start-at t (processCount t) p l (s .counts .processes))) (λ i k.
       subst (λ (x : ℕ). inRange (limitRange t (invariantGroup (placeAt t p)) i) x ≡ true)
-      (sym (all-replicate (λ (x : ℕ). x ≡ 0) 0 clockRoom 0 refl refl (clockOf t (invariantGroup (placeAt t p)) i))) (s .process p l .zero-inside i k)))
+      (sym (all-replicate (λ (x : ℕ). x ≡ 0) 0 clockRoom 0 refl refl (clockOf t (invariantGroup (placeAt t p)) i)))
+      (s .process p l .zero-inside i k)))
 
   -- After every chain of calls the run is one of its table's.
-  pub chain-fits : (calls : List RunCall) → (fitsTable t (runAfterAll t (newRunOf t .run) calls) ≡ true) × Sized (runAfterAll t (newRunOf t .run) calls)
+  pub chain-fits : (calls : List RunCall)
+      → (fitsTable t (runAfterAll t (newRunOf t .run) calls) ≡ true) × Sized (runAfterAll t (newRunOf t .run) calls)
   chain-fits calls = let q = fresh-fits t formed in chain-keeps t (newRunOf t .run) calls (q .0) (q .1)
 
   -- No call after a chain answers 32.

@@ -1,5 +1,5 @@
 -- Every call keeps a run one of its table's.
-use Prim.Native.Nat.{ℕ, zero, suc, _+_, _<_, _≤_}
+use Prim.Native.Nat.{ℕ, zero, suc, _<_, _≤_}
 use mathlib.Core.Path.{_≡_, refl, sym, ap, subst, _∙_}
 use mathlib.Core.Bool.{Bool, true, false, cond}
 use mathlib.Core.List.{List, [], _∷_}
@@ -8,8 +8,8 @@ use native.Mathlib.Nat.{le-of-suc-le-suc, not-suc-le-zero, eq-or-lt-of-le}
 use native.Mathlib.Decide.{ℕ-discrete}
 use native.Mathlib.Omega.{arith}
 use lib.Dec.{eqb, ltb}
-use lib.ListN.{length, getD, drop, set, length-set, length-drop, List·getD-eq-default}
-use lib.Seq.{getD-take, getD-drop, getD-set-same, getD-set-other, length-take-le}
+use lib.ListN.{length, getD, drop, set, length-set, List·getD-eq-default}
+use lib.Seq.{getD-take, getD-drop, getD-set-same, getD-set-other}
 use borrow.Author.Tests.{eqb-true, eqb-false, eq-eqb, ltb-true, ltb-false, lt-ltb}
 use Rattle.laws.specs.Ladder.{unless}
 use Rattle.laws.specs.Below.{allBelow}
@@ -28,17 +28,20 @@ use Rattle.grammar.specs.declared.evaluation.Evaluated.{Evaluated}
 use Rattle.grammar.specs.declared.evaluation.Evaluated.the-variants.{Known, NoValue}
 use Rattle.grammar.proofs.Sound.{HasKind, Of, Fit}
 use Rattle.grammar.proofs.Theorems.{typed-value}
+use Rattle.graph_tables.specs.Sizes.{processRoom, variableRoom, clockRoom, plainKind}
+use Rattle.graph_tables.specs.Layout.{tableWords, kindsStart, kindCell}
 use Rattle.graph_tables.specs.Refusals.{refusal}
 use Rattle.graph_tables.specs.declared.answers.Done.the-variants as Done
-use Rattle.graph_tables.specs.Words.{variableCount, clockCount, locationCount, actionCount, processCount, kindAt, kindsOf, valueAt, placeAt, actionKind, resetCount, effectCount, effectVar, effectItems, epsilon}
+use Rattle.graph_tables.specs.Words.{variableCount, clockCount, locationCount, actionCount, processCount, kindAt, kindsOf, valueAt, placeAt}
+use Rattle.graph_tables.specs.Words.{actionKind, resetCount, effectCount, effectVar, effectItems, epsilon}
 use Rattle.graph_tables.specs.Formed.{wellFormed}
 use Rattle.graph_tables.specs.Sound.{Sound}
 use Rattle.graph_tables.proofs.SoundLaws.{sound}
-use Rattle.graph_steps.specs.Steps.{clocksAfter, assigned, effectsBelow, effectedOf, placedBelow, postKnown}
-use Rattle.graph_steps.specs.declared.inner.effects.Effected.{Effected}
-use Rattle.graph_steps.proofs.StepLaws.{post-known, reset-length, shifted-length, placed-length, placed-at, effects-length}
-use Rattle.graph_steps.specs.Messages.{takenOf}
-use Rattle.graph_steps.proofs.MessageLaws.{taken-length, taken-fits}
+use Rattle.run_steps.specs.Steps.{clocksAfter, Effected, assigned, unchanged, effectsBelow, effectedOf, placedBelow, postKnown}
+use Rattle.run_steps.proofs.AgreeLaws.{kinds-length}
+use Rattle.run_steps.proofs.StepLaws.{post-known, reset-length, shifted-length, placed-length, placed-at, next-keeps, effects-length}
+use Rattle.run_steps.specs.Messages.{takenOf}
+use Rattle.run_steps.proofs.MessageLaws.{taken-length, taken-fits}
 use Rattle.graph_tables.specs.declared.handed.Message.{Message}
 use Rattle.program_graph.specs.Facts.{Sized}
 use Rattle.program_graph.specs.declared.record.ProgramGraphRun.{ProgramGraphRun}
@@ -48,7 +51,10 @@ use Rattle.program_graph.specs.declared.answers.Waited.{Waited}
 use Rattle.program_graph.specs.declared.answers.Sent.{Sent}
 use Rattle.program_graph.specs.declared.answers.Received.{Received}
 use Rattle.program_graph.specs.Messaging.{refusedSend, refusedReceive, saidOf, sentOf, sendOf, heardOf, receivedOf, receiveOf}
-use Rattle.program_graph.specs.Running.{refused, refusedWait, acceptedWait, placeKnown, varFits, countsSame, runFormed, fitsTable, readyStill, movedTo, autonomousOf, plainOf, actedOf, stepOf, transitionOf, waitFits, waitHolds, later, waitedOf, waitOf, startPlaces, startValue, startVars, freshRun, noRun, newRunOf}
+use Rattle.program_graph.specs.Running.{refused, refusedWait, acceptedWait, placeKnown, varFits, countsSame, runFormed, fitsTable}
+use Rattle.program_graph.specs.Running.{readyStill, movedTo, autonomousOf, plainOf, actedOf, stepOf, transitionOf, waitFits}
+use Rattle.program_graph.specs.Running.{waitHolds, later, waitedOf, waitOf, startPlaces, startValue, startVars, freshRun, noRun}
+use Rattle.program_graph.specs.Running.{newRunOf}
 use Rattle.program_graph.proofs.RunLaws.{table-formed, fitting, same-variables, few-processes, either-way}
 use Rattle.program_graph.proofs.RunReady.{ready-exactly}
 
@@ -77,21 +83,19 @@ fit-vars t vars s h = λ n. by n (ltb n (variableCount t)) refl
     by : (n : ℕ) (b : Bool) → ltb n (variableCount t) ≡ b → Of (variableOf vars n) (variableKind (kindsOf t) n)
     by n true e =
         let l : n < variableCount t = ltb-true _ _ e in
-        let w : length t ≡ 46890 = s .words in
-        let f : variableCount t ≤ 16 = s .counts .variables in
+        let w : length t ≡ tableWords = s .words in
+        let f : variableCount t ≤ variableRoom = s .counts .variables in
         let k : getD (kindsOf t) n 2 ≡ kindAt t n
-        = getD-take (variableCount t) (drop 6 t) n 2 l ∙ getD-drop 6 t n 2 ∙ same-word t (6 + n) 2 0 (omega arith) in
+        = getD-take (variableCount t) (drop kindsStart t) n 2 l ∙ getD-drop kindsStart t n 2 ∙ same-word t (kindCell n) 2 0 (omega arith) in
         let x : kindWord (kindOf (getD vars n blank .value)) ≡ getD (kindsOf t) n 2
         = eqb-true _ _ (all-at (varFits t vars) (variableCount t) n h l) ∙ sym k in
         let q : variableOf vars n ≡ Known (getD vars n blank .value)
-        = ap (λ (b : Bool). cond b (Known (getD vars n blank .value)) NoValue) (lt-ltb n 16 (omega arith)) in
+        = ap (λ (b : Bool). cond b (Known (getD vars n blank .value)) NoValue) (lt-ltb n variableRoom (omega arith)) in
         subst (λ (v : Evaluated). Of v (variableKind (kindsOf t) n)) (sym q)
         (subst (λ (m : ℕ). Of (Known (getD vars n blank .value)) (kindedAt m)) x (own-kind (getD vars n blank .value)))
     by n false e =
-        let w : length t ≡ 46890 = s .words in
-        let f : variableCount t ≤ 16 = s .counts .variables in
-        let z : length (kindsOf t) ≡ variableCount t = length-take-le (variableCount t) (drop 6 t) (rw (length-drop 6 t, w) (omega arith)) in
-        let q : getD (kindsOf t) n 2 ≡ 2 = List·getD-eq-default (kindsOf t) 2 (omega (arith, z, ltb-false n (variableCount t) e)) in
+        let q : getD (kindsOf t) n 2 ≡ 2
+        = List·getD-eq-default (kindsOf t) 2 (omega (arith, kinds-length t s, ltb-false n (variableCount t) e)) in
         subst (λ (m : ℕ). Of (variableOf vars n) (kindedAt m)) (sym q) tt
 
 -- The variables of a run that is one of its table's have their kinds.
@@ -110,30 +114,35 @@ set-fits t vars v x n e l h = all-kept (varFits t vars) (varFits t (set vars v (
         subst (λ (j : ℕ). varFits t (set vars v (record { value = x })) j ≡ true) (sym q)
         (eq-eqb _ _ (ap (λ (s : Slot). kindWord (kindOf (s .value))) (getD-set-same vars v (record { value = x }) blank l) ∙ e))
     by i (no q) k =
-        subst (λ (s : Slot). eqb (kindWord (kindOf (s .value))) (kindAt t i) ≡ true) (sym (getD-set-other vars v i (record { value = x }) blank q)) k
+        subst (λ (s : Slot). eqb (kindWord (kindOf (s .value))) (kindAt t i) ≡ true)
+        (sym (getD-set-other vars v i (record { value = x }) blank q)) k
 
 -- one effect whose value has its variable's kind
-assigned-fits : (t : List ℕ) (s : Effected) (v : ℕ) (e : Evaluated) (rest n : ℕ) (k : Kind) → HasKind e k → kindWord k ≡ kindAt t v → v < length (s .vars)
+assigned-fits : (t : List ℕ) (s : Effected) (v : ℕ) (e : Evaluated) (rest n : ℕ) (k : Kind) → HasKind e k → kindWord k ≡ kindAt t v
+    → v < length (s .vars)
     → allBelow n (varFits t (s .vars)) ≡ true → allBelow n (varFits t (assigned s v e rest .vars)) ≡ true
 assigned-fits t s v (Known x) rest n k q e l h = set-fits t (s .vars) v x n (ap kindWord q ∙ e) l h
 assigned-fits t s v NoValue rest n k q e l h = h
 
-module _ (t : List ℕ) (sound : Sound t) (a : ℕ) (known : a < actionCount t) (plain : actionKind t a ≡ 0) where
+module _ (t : List ℕ) (sound : Sound t) (a : ℕ) (known : a < actionCount t) (plain : actionKind t a ≡ plainKind) where
   -- The effects of a plain action keep every variable of its kind.
-  pub effects-keep : (vars : List Slot) (word n : ℕ) → n ≤ effectCount t a → length vars ≡ 16 → allBelow (variableCount t) (varFits t vars) ≡ true
-      → allBelow (variableCount t) (varFits t (effectsBelow t a (record { vars = vars; word = word; fits = true }) n .vars)) ≡ true
+  pub effects-keep : (vars : List Slot) (word n : ℕ) → n ≤ effectCount t a → length vars ≡ variableRoom
+      → allBelow (variableCount t) (varFits t vars) ≡ true
+      → allBelow (variableCount t) (varFits t (effectsBelow t a (unchanged vars word) n .vars)) ≡ true
   unfolding effectsBelow evaluationOf
   effects-keep vars word zero m z h = h
   effects-keep vars word (suc n) m z h =
-      let start : Effected = record { vars = vars; word = word; fits = true } in
+      let start : Effected = unchanged vars word in
       let s : Effected = effectsBelow t a start n in
       let turn : Evaluation = evaluationOf (s .vars) (s .word) (effectItems t a n) in
       let before : allBelow (variableCount t) (varFits t (s .vars)) ≡ true = effects-keep vars word n (omega arith) z h in
       let e = sound .action a known .plain plain .effect n m in
       let x = e .expression in
-      assigned-fits t s (effectVar t a n) (turn .value) (turn .rest) (variableCount t) (x .kind)
+      next-keeps (λ (r : Effected). allBelow (variableCount t) (varFits t (r .vars)) ≡ true) s (effectVar t a n) (effectItems t a n)
+      (assigned-fits t s (effectVar t a n) (turn .value) (turn .rest) (variableCount t) (x .kind)
       (typed-value (s .vars) (kindsOf t) (fit-vars t (s .vars) sound before) (effectItems t a n) (x .kind) (x .typed) (s .word)) (e .same)
-      (omega (arith, e .var, sound .counts .variables, effects-length t a start n, z)) before
+      (omega (arith, e .var, sound .counts .variables, effects-length t a start n, z)) before)
+      before
 
 -- ---- a wait
 -- A wait keeps a run one of its table's, whatever it answers.
@@ -161,9 +170,11 @@ from-kept t run after f k =
     (and-both (table-formed t run f) (q .0), q .1)
 
 -- a run whose processes moved to known posts, and whose variables fit
-moved-kept : (t : List ℕ) (run : ProgramGraphRun) (posts : List ℕ) (vars : List Slot) (clocks : List ℕ) → Sound t → runFormed t run ≡ true → Sized run
+moved-kept : (t : List ℕ) (run : ProgramGraphRun) (posts : List ℕ) (vars : List Slot) (clocks : List ℕ) → Sound t → runFormed t run ≡ true
+    → Sized run
     → allBelow (length posts) (postKnown t posts) ≡ true → length posts ≡ run .processes
-    → allBelow (variableCount t) (varFits t vars) ≡ true → length vars ≡ 16 → length clocks ≡ 8 → Kept t (movedTo run posts vars clocks)
+    → allBelow (variableCount t) (varFits t vars) ≡ true → length vars ≡ variableRoom → length clocks ≡ clockRoom
+    → Kept t (movedTo run posts vars clocks)
 unfolding runFormed countsSame placeKnown postKnown
 moved-kept t run posts vars clocks s h z known e v vz cz =
     let n : ℕ = run .processes in
@@ -188,7 +199,7 @@ autonomous-keeps t run posts s h z known e =
 
 -- so does a step by a plain action
 plain-keeps : (t : List ℕ) (run : ProgramGraphRun) (a : ℕ) (posts : List ℕ) (word : ℕ) → Sound t → runFormed t run ≡ true → Sized run
-    → a < actionCount t → actionKind t a ≡ 0 → allBelow (length posts) (postKnown t posts) ≡ true → length posts ≡ run .processes
+    → a < actionCount t → actionKind t a ≡ plainKind → allBelow (length posts) (postKnown t posts) ≡ true → length posts ≡ run .processes
     → (runFormed t (plainOf t run a posts word .run) ≡ true) × Sized (plainOf t run a posts word .run)
 unfolding plainOf
 plain-keeps t run a posts word s h z l k known e =
@@ -216,7 +227,8 @@ transition-keeps t run a posts word f z =
 
 -- ---- a send and a receive
 -- where processes are ready, their posts are known
-ready-known : (t : List ℕ) (run : ProgramGraphRun) (a : ℕ) (posts : List ℕ) → Sound t → readyStill t run a posts ≡ true → length posts ≡ run .processes
+ready-known : (t : List ℕ) (run : ProgramGraphRun) (a : ℕ) (posts : List ℕ) → Sound t → readyStill t run a posts ≡ true
+    → length posts ≡ run .processes
     → allBelow (length posts) (postKnown t posts) ≡ true
 ready-known t run a posts s r e =
     let each = ready-exactly t (run .vars) (run .times) (run .times) (run .places) (run .processes) a posts .0 r in
@@ -253,19 +265,21 @@ receive-keeps t run a posts m f z =
     (λ e. rung P _ (refusedReceive 8 run) _ (h, z)
     (λ r. rung P _ (refusedReceive 15 run) _ (h, z)
     (λ k. rung P _ (refusedReceive 5 run) _ (h, z)
-    (λ v. moved-kept t run posts (takenOf t a m (run .vars)) (run .times) s h z (ready-known t run a posts s r (eqb-true _ _ e)) (eqb-true _ _ e)
-    (all-kept (varFits t (run .vars)) (varFits t (takenOf t a m (run .vars))) (variableCount t) (λ i l g. taken-fits t a m (run .vars) i v g) (vars-fit t run h))
+    (λ v. moved-kept t run posts (takenOf t a m (run .vars)) (run .times) s h z (ready-known t run a posts s r (eqb-true _ _ e))
+    (eqb-true _ _ e)
+    (all-kept (varFits t (run .vars)) (varFits t (takenOf t a m (run .vars))) (variableCount t)
+    (λ i l g. taken-fits t a m (run .vars) i v g) (vars-fit t run h))
     (taken-length t a m (run .vars) (effectCount t a) ∙ z .vars) (z .times))))))))
 
 -- ---- a fresh run
 module _ (t : List ℕ) where
-  start-length : (n : ℕ) → length (startPlaces t n) ≡ 4
+  start-length : (n : ℕ) → length (startPlaces t n) ≡ processRoom
   unfolding startPlaces
   start-length zero = refl
   start-length (suc n) = length-set (startPlaces t n) n (placeAt t n) ∙ start-length n
 
   -- each of the first n processes is where it starts
-  pub start-at : (n p : ℕ) → p < n → n ≤ 4 → getD (startPlaces t n) p 0 ≡ placeAt t p
+  pub start-at : (n p : ℕ) → p < n → n ≤ processRoom → getD (startPlaces t n) p 0 ≡ placeAt t p
   unfolding startPlaces
   start-at zero p l h = absurd (not-suc-le-zero l)
   start-at (suc n) p l h =
@@ -274,7 +288,7 @@ module _ (t : List ℕ) where
       (λ (m : p < n). getD-set-other (startPlaces t n) n p (placeAt t n) 0 (λ e. omega arith) ∙ start-at n p m (omega arith))
       (eq-or-lt-of-le (le-of-suc-le-suc l))
 
-  values-length : (n : ℕ) → length (startVars t n) ≡ 16
+  values-length : (n : ℕ) → length (startVars t n) ≡ variableRoom
   unfolding startVars
   values-length zero = refl
   values-length (suc n) = length-set (startVars t n) n (record { value = startValue t n }) ∙ values-length n
@@ -283,19 +297,21 @@ module _ (t : List ℕ) where
   start-kind : (v : ℕ) → kindAt t v < 2 → kindWord (kindOf (startValue t v)) ≡ kindAt t v
   start-kind v l = by (eqb (kindAt t v) 0) refl
     where
-      by : (b : Bool) → eqb (kindAt t v) 0 ≡ b → kindWord (kindOf (cond b (Boolean (eqb (valueAt t v) 1)) (Integer (fromBits (valueAt t v))))) ≡ kindAt t v
+      by : (b : Bool) → eqb (kindAt t v) 0 ≡ b
+          → kindWord (kindOf (cond b (Boolean (eqb (valueAt t v) 1)) (Integer (fromBits (valueAt t v))))) ≡ kindAt t v
       by true e = sym (eqb-true _ _ e)
       by false e = let n : kindAt t v ≡ 0 → ⊥ = eqb-false _ _ e in omega arith
 
   -- the first n variables fit
-  values-fit : (n : ℕ) → n ≤ 16 → ((v : ℕ) → v < n → kindAt t v < 2) → allBelow n (varFits t (startVars t n)) ≡ true
+  values-fit : (n : ℕ) → n ≤ variableRoom → ((v : ℕ) → v < n → kindAt t v < 2) → allBelow n (varFits t (startVars t n)) ≡ true
   unfolding startVars allBelow varFits
   values-fit zero l k = refl
   values-fit (suc n) l k =
       let m : n < length (startVars t n) = rw (values-length n) l in
       let e : kindWord (kindOf (startValue t n)) ≡ kindAt t n = start-kind n (k n (omega arith)) in
       and-both (set-fits t (startVars t n) n (startValue t n) n e m (values-fit n (omega arith) (λ v q. k v (omega arith))))
-      (eq-eqb _ _ (ap (λ (s : Slot). kindWord (kindOf (s .value))) (getD-set-same (startVars t n) n (record { value = startValue t n }) blank m) ∙ e))
+      (eq-eqb _ _ (ap (λ (s : Slot). kindWord (kindOf (s .value)))
+      (getD-set-same (startVars t n) n (record { value = startValue t n }) blank m) ∙ e))
 
   -- A fresh run of a well-formed table is one of it.
   pub fresh-fits : wellFormed t false ≡ true → (fitsTable t (newRunOf t .run) ≡ true) × Sized (newRunOf t .run)
@@ -303,14 +319,16 @@ module _ (t : List ℕ) where
   fresh-fits h =
       let s : Sound t = sound t false h in
       let n : ℕ = processCount t in
-      let few : n ≤ 4 = s .counts .processes in
+      let few : n ≤ processRoom = s .counts .processes in
       let at : (p : ℕ) → p < n → placeKnown t (startPlaces t n) p ≡ true
       = λ p l. lt-ltb (getD (startPlaces t n) p 0) (locationCount t) (rw (start-at n p l few) (s .process p l .place)) in
-      let counts : countsSame t (freshRun t) ≡ true = and-both (eq-eqb n n refl) (and-both (eq-eqb (variableCount t) _ refl) (eq-eqb (clockCount t) _ refl)) in
+      let counts : countsSame t (freshRun t) ≡ true
+      = and-both (eq-eqb n n refl) (and-both (eq-eqb (variableCount t) _ refl) (eq-eqb (clockCount t) _ refl)) in
       let values : allBelow (variableCount t) (varFits t (startVars t (variableCount t))) ≡ true
       = values-fit (variableCount t) (s .counts .variables) (λ v l. s .variable v l .kind) in
       let P : Fresh → Type 0 = λ x. (fitsTable t (x .run) ≡ true) × Sized (x .run) in
-      subst (λ (b : Bool). P (unless b (record { answer = Done.Refused (refusal 32); run = noRun }) (record { answer = Done.Accepted; run = freshRun t }))) (sym h) (
+      let none : Fresh = record { answer = Done.Refused (refusal 32); run = noRun } in
+      subst (λ (b : Bool). P (unless b none (record { answer = Done.Accepted; run = freshRun t }))) (sym h) (
         and-both h (and-both counts (and-both (all-from (placeKnown t (startPlaces t n)) n at) values)),
         record { places = start-length n; vars = values-length (variableCount t); times = refl },
       )

@@ -7,13 +7,14 @@ use native.Mathlib.Omega.{arith}
 use lib.ListN.{length, getD}
 use borrow.Author.Tests.{eqb-true, ltb-true}
 use Rattle.laws.proofs.BelowLaws.{and-first, and-rest, all-at}
+use Rattle.graph_tables.specs.Sizes.{processRoom, variableRoom, clockRoom}
 use Rattle.graph_tables.specs.Words.{variableCount, clockCount, locationCount, actionCount, processCount, actionKind}
 use Rattle.graph_tables.specs.Formed.{wellFormed}
 use Rattle.graph_tables.specs.Sound.{Sound}
 use Rattle.graph_tables.proofs.SoundLaws.{sound}
+use Rattle.run_steps.specs.Steps.{isKind}
 use Rattle.program_graph.specs.Facts.{Sized}
 use Rattle.program_graph.specs.Running.{placeKnown, countsSame, runFormed, fitsTable}
-use Rattle.program_graph.specs.Messaging.{isKind}
 use Rattle.program_graph.specs.declared.record.ProgramGraphRun.{ProgramGraphRun}
 
 module _ (t : List ℕ) (run : ProgramGraphRun) where
@@ -42,13 +43,13 @@ module _ (t : List ℕ) (run : ProgramGraphRun) where
   unfolding runFormed countsSame
   same-clocks h = eqb-true _ _ (and-rest _ _ (and-rest _ _ (and-first _ _ h)))
 
-  pub few-processes : Sound t → runFormed t run ≡ true → run .processes ≤ 4
+  pub few-processes : Sound t → runFormed t run ≡ true → run .processes ≤ processRoom
   few-processes s h = omega (arith, same-processes h, s .counts .processes)
 
-  pub few-variables : Sound t → runFormed t run ≡ true → run .variables ≤ 16
+  pub few-variables : Sound t → runFormed t run ≡ true → run .variables ≤ variableRoom
   few-variables s h = omega (arith, same-variables h, s .counts .variables)
 
-  pub few-clocks : Sound t → runFormed t run ≡ true → run .clocks ≤ 8
+  pub few-clocks : Sound t → runFormed t run ≡ true → run .clocks ≤ clockRoom
   few-clocks s h = omega (arith, same-clocks h, s .counts .clocks)
 
   -- ---- there is room for its processes and clocks

@@ -6,16 +6,17 @@ use mathlib.Core.List.{List, [], _∷_}
 use native.Mathlib.Omega.{arith}
 use lib.ListN.{length, getD}
 use Rattle.laws.proofs.Ladder.{passed}
+use Rattle.graph_tables.specs.Sizes.{plainKind}
 use Rattle.graph_tables.specs.Words.{locationCount, actionCount, actionKind}
 use Rattle.graph_tables.specs.Sound.{Sound}
 use Rattle.graph_tables.specs.Refusals.{refusal}
 use Rattle.graph_tables.specs.declared.answers.Entry.{Entry}
-use Rattle.graph_steps.specs.Listing.{seek, listingOf}
-use Rattle.graph_steps.specs.Passing.{Row, entryFor, Passing}
-use Rattle.graph_steps.specs.Steps.{clocksAfter}
-use Rattle.graph_steps.specs.declared.inner.listing.Sought.{Sought}
-use Rattle.graph_steps.specs.declared.inner.listing.Sought.the-variants.{Found, Left}
-use Rattle.graph_steps.proofs.ListingTheorems.{listed-passes, passes-listed, plain-ready}
+use Rattle.run_steps.specs.Listing.{seek, listingOf}
+use Rattle.run_steps.specs.Rows.{Row, entryFor, Open}
+use Rattle.run_steps.specs.Steps.{clocksAfter}
+use Rattle.run_steps.specs.declared.inner.listing.Sought.{Sought}
+use Rattle.run_steps.specs.declared.inner.listing.Sought.the-variants.{Found, Left}
+use Rattle.run_steps.proofs.ListingTheorems.{listed-passes, passes-listed, plain-ready}
 use Rattle.program_graph.specs.Facts.{PastGuards, PlainAsked}
 use Rattle.program_graph.specs.Running.{fitsTable, transitionOf}
 use Rattle.program_graph.specs.Transitions.{listed, entryOrEnd, possibleOf}
@@ -46,23 +47,25 @@ module _ (t : List ℕ) (run : ProgramGraphRun) (fits : fitsTable t run ≡ true
 
   -- Every listed entry is a transition that its process passes.
   pub entry-passes : (i : ℕ) (e : Entry) → possibleOf t run i ≡ Listed.At e
-      → (r : Row) × Passing t (run .vars) (run .times) (run .places) (run .processes) r × (e ≡ entryFor t r)
+      → (r : Row) × Open t (run .vars) (run .times) (run .places) (run .processes) r × (e ≡ entryFor t r)
   entry-passes i e h = listed-passes t (run .vars) (run .times) (run .places) (run .processes) (fitting t run fits .0) i e (told i e h)
 
   -- Every transition that a process passes, by an action that every process's location has, is listed.
-  pub passing-listed : (r : Row) → Passing t (run .vars) (run .times) (run .places) (run .processes) r → (i : ℕ) × (possibleOf t run i ≡ Listed.At (entryFor t r))
+  pub passing-listed : (r : Row) → Open t (run .vars) (run .times) (run .places) (run .processes) r
+      → (i : ℕ) × (possibleOf t run i ≡ Listed.At (entryFor t r))
   passing-listed r p =
       let x = passes-listed t (run .vars) (run .times) (run .places) (run .processes) (fitting t run fits .0) r p in
       (x .0, subst (λ (y : Listed). y ≡ Listed.At (entryFor t r)) (answered (x .0)) (ap entryOrEnd (x .1)))
 
   -- With one process, `transition` gets past its guards with a listed entry of a plain action.
   pub listed-steps : run .processes ≡ 1 → (i : ℕ) (e : Entry) → possibleOf t run i ≡ Listed.At e
-      → e .action .0 < actionCount t → actionKind t (e .action .0) ≡ 0
+      → e .action .0 < actionCount t → actionKind t (e .action .0) ≡ plainKind
       → (word : ℕ) → PastGuards (transitionOf t run (e .action .0) (e .post ∷ []) word .answer)
   listed-steps one i e h known plain word =
       let s : Sound t = fitting t run fits .0 in
       let x = entry-passes i e h in
-      let post : e .post < locationCount t = subst (λ (d : Entry). d .post < locationCount t) (sym (x .2)) (s .transition (x .0 .transition) (x .1 .known) .post) in
+      let post : e .post < locationCount t
+      = subst (λ (d : Entry). d .post < locationCount t) (sym (x .2)) (s .transition (x .0 .transition) (x .1 .known) .post) in
       let asked : PlainAsked t run (e .action .0) (e .post ∷ [])
       = record { step = record { fits = fits; one-each = sym one; known = at-first post }; action = known; plain = plain } in
       let found : seek (listingOf t (run .vars) (run .times) (run .places) 1) i ≡ Found e

@@ -1,5 +1,5 @@
 -- When the processes of a run are ready, and so which calls get past their guards.
-use Prim.Native.Nat.{ℕ, _+_, _<_, _≤_}
+use Prim.Native.Nat.{ℕ, _<_, _≤_}
 use mathlib.Core.Path.{_≡_, refl, sym, ap, subst}
 use mathlib.Core.Bool.{Bool, true, false, not}
 use mathlib.Core.List.{List}
@@ -18,9 +18,10 @@ use Rattle.graph_tables.specs.Answers.{doneNumber}
 use Rattle.graph_tables.specs.Sizes.{actionRoom, sendKind, receiveKind}
 use Rattle.graph_tables.specs.declared.handed.Message.{Message}
 use Rattle.graph_tables.specs.Words.{actionCount, transitionCount, keyOf, postOf, invariantGroup, epsilon}
-use Rattle.graph_steps.specs.Steps.{limitHolds, limitsHold, invariantsHold, passesOf, candidateOf, leadsOf, processReady, readyOf, clocksAfter, postKnown}
-use Rattle.graph_steps.proofs.StepLaws.{post-known}
-use Rattle.graph_steps.proofs.AnyLaws.{any-some, any-found}
+use Rattle.run_steps.specs.Steps.{limitHolds, limitsHold, invariantsHold, passesOf, leavesBy, leadsOf, processReady, readyOf, isKind}
+use Rattle.run_steps.specs.Steps.{clocksAfter, postKnown}
+use Rattle.run_steps.proofs.StepLaws.{post-known}
+use Rattle.run_steps.proofs.AnyLaws.{any-some, any-found}
 use Rattle.graph_tables.specs.declared.answers.Done.{Done}
 use Rattle.program_graph.specs.Facts.{InvariantsAt, Passing, AllPass, PastGuards, StepAsked, PlainAsked, MessageAsked}
 use Rattle.program_graph.specs.declared.record.ProgramGraphRun.{ProgramGraphRun}
@@ -28,7 +29,7 @@ use Rattle.program_graph.specs.declared.answers.Stepped.{Stepped}
 use Rattle.program_graph.specs.declared.answers.Sent.{Sent}
 use Rattle.program_graph.specs.declared.answers.Received.{Received}
 use Rattle.program_graph.specs.Running.{refused, fitsTable, readyStill, autonomousOf, plainOf, actedOf, stepOf, transitionOf}
-use Rattle.program_graph.specs.Messaging.{refusedSend, refusedReceive, isKind, saidOf, sentOf, sendOf, heardOf, receivedOf, receiveOf}
+use Rattle.program_graph.specs.Messaging.{refusedSend, refusedReceive, saidOf, sentOf, sendOf, heardOf, receivedOf, receiveOf}
 use Rattle.program_graph.proofs.RunLaws.{fitting, left-over}
 use Rattle.program_graph.proofs.AnswerLaws.{skip}
 
@@ -44,16 +45,18 @@ module _ (t clocks : List ℕ) (l : ℕ) where
 
 -- ---- when processes are ready
 module _ (t : List ℕ) (vars : List Slot) (clocks after : List ℕ) where
-  passing : (pre action post k : ℕ) → k < transitionCount t → leadsOf t vars clocks after pre action post k ≡ true → Passing t vars clocks after pre action post k
-  unfolding leadsOf candidateOf passesOf limitsHold limitHolds
+  passing : (pre action post k : ℕ) → k < transitionCount t → leadsOf t vars clocks after pre action post k ≡ true
+      → Passing t vars clocks after pre action post k
+  unfolding leadsOf leavesBy passesOf limitsHold limitHolds
   passing pre action post k l h =
       let c = and-first _ _ h in
-      let q = and-rest _ _ h in
-      let e : postOf (keyOf t k) ≡ post = eqb-true _ _ (and-rest _ _ (and-rest _ _ c)) in
+      let r = and-rest _ _ h in
+      let e : postOf (keyOf t k) ≡ post = eqb-true _ _ (and-first _ _ r) in
+      let q = and-rest _ _ r in
       record {
         known = l;
         from = eqb-true _ _ (and-first _ _ c);
-        by = eqb-true _ _ (and-first _ _ (and-rest _ _ c));
+        by = eqb-true _ _ (and-rest _ _ c);
         to = e;
         guard = and-first _ _ q;
         limits = λ i m. all-at (limitHolds t k clocks) _ i (and-first _ _ (and-rest _ _ q)) m;
@@ -61,13 +64,13 @@ module _ (t : List ℕ) (vars : List Slot) (clocks after : List ℕ) where
       }
 
   leading : (pre action post k : ℕ) → Passing t vars clocks after pre action post k → leadsOf t vars clocks after pre action post k ≡ true
-  unfolding leadsOf candidateOf passesOf limitsHold limitHolds
+  unfolding leadsOf leavesBy passesOf limitsHold limitHolds
   leading pre action post k h =
-      and-both
-      (and-both (eq-eqb _ _ (h .from)) (and-both (eq-eqb _ _ (h .by)) (eq-eqb _ _ (h .to))))
+      and-both (and-both (eq-eqb _ _ (h .from)) (eq-eqb _ _ (h .by)))
+      (and-both (eq-eqb _ _ (h .to))
       (and-both (h .guard)
       (and-both (all-from (limitHolds t k clocks) _ (h .limits))
-      (subst (λ (l : ℕ). invariantsHold t after l ≡ true) (sym (h .to)) (invariants-from t after post (h .invariants)))))
+      (subst (λ (l : ℕ). invariantsHold t after l ≡ true) (sym (h .to)) (invariants-from t after post (h .invariants))))))
 
   -- Processes are ready exactly when each has a transition from its place, by the action, to its post that passes.
   pub ready-exactly : (places : List ℕ) (n action : ℕ) (posts : List ℕ)
@@ -92,7 +95,7 @@ guards answer true refusal rest e n = (λ k. refl, λ q. n)
 guards answer false refusal rest e n = (λ k. absurd (k e), λ q. never q)
 
 -- two equivalences in a row
-through : {A B C : Type 0} → A ↔ B → B ↔ C → A ↔ C
+pub through : {A B C : Type 0} → A ↔ B → B ↔ C → A ↔ C
 through f g = (λ a. g .0 (f .0 a), λ c. f .1 (g .1 c))
 
 module _ (t : List ℕ) (run : ProgramGraphRun) (posts : List ℕ) where
@@ -100,12 +103,15 @@ module _ (t : List ℕ) (run : ProgramGraphRun) (posts : List ℕ) where
   posts-known : StepAsked t run posts → allBelow (length posts) (postKnown t posts) ≡ true
   posts-known q = all-from (postKnown t posts) (length posts) (λ p l. post-known t posts p (q .known p l))
 
-  pub step-asked : fitsTable t run ≡ true → eqb (length posts) (run .processes) ≡ true → allBelow (length posts) (postKnown t posts) ≡ true → StepAsked t run posts
+  pub step-asked : fitsTable t run ≡ true → eqb (length posts) (run .processes) ≡ true → allBelow (length posts) (postKnown t posts) ≡ true
+      → StepAsked t run posts
   unfolding postKnown
-  step-asked f e k = record { fits = f; one-each = eqb-true _ _ e; known = λ p l. ltb-true _ _ (all-at (postKnown t posts) (length posts) p k l) }
+  step-asked f e k =
+      record { fits = f; one-each = eqb-true _ _ e; known = λ p l. ltb-true _ _ (all-at (postKnown t posts) (length posts) p k l) }
 
   -- a call that is ready, as a test and in full
-  pub all-pass : (a : ℕ) (after : List ℕ) → (readyOf t (run .vars) (run .times) after (run .places) (run .processes) a posts ≡ true) ↔ AllPass t run a posts after
+  pub all-pass : (a : ℕ) (after : List ℕ)
+      → (readyOf t (run .vars) (run .times) after (run .places) (run .processes) a posts ≡ true) ↔ AllPass t run a posts after
   all-pass a after = ready-exactly t (run .vars) (run .times) after (run .places) (run .processes) a posts
 
   -- what is asked passes the rungs before the guards
@@ -124,20 +130,23 @@ module _ (t : List ℕ) (run : ProgramGraphRun) (posts : List ℕ) where
       (passed _ (lt-ltb _ _ (q .action)) (passed _ (eq-eqb _ _ (q .plain)) refl)))))
 
   pub reached-send : (a word : ℕ) → MessageAsked t run a posts
-      → unless (readyStill t run a posts) (refusedSend 8 run) (unless (isKind t a sendKind) (refusedSend 14 run) (saidOf t run a posts word))
+      → unless (readyStill t run a posts) (refusedSend 8 run)
+      (unless (isKind t a sendKind) (refusedSend 14 run) (saidOf t run a posts word))
       ≡ sendOf t run a posts word
   unfolding sendOf sentOf
   reached-send a word q = passed _ (q .fits) (passed _ (ap not (ne-eqb a epsilon (q .named))) (passed _ (eq-eqb _ _ (q .one-each)) refl))
 
   pub reached-receive : (a : ℕ) (m : Message) → MessageAsked t run a posts
-      → unless (readyStill t run a posts) (refusedReceive 8 run) (unless (isKind t a receiveKind) (refusedReceive 15 run) (heardOf t run a posts m))
+      → unless (readyStill t run a posts) (refusedReceive 8 run)
+      (unless (isKind t a receiveKind) (refusedReceive 15 run) (heardOf t run a posts m))
       ≡ receiveOf t run a posts m
   unfolding receiveOf receivedOf
   reached-receive a m q = passed _ (q .fits) (passed _ (ap not (ne-eqb a epsilon (q .named))) (passed _ (eq-eqb _ _ (q .one-each)) refl))
 
   -- ---- when a call gets past its guards
   -- A step by EPSILON gets past its guards exactly when each process has a transition that passes, on the clocks as they are.
-  pub autonomous-exactly : (word : ℕ) → StepAsked t run posts → PastGuards (transitionOf t run epsilon posts word .answer) ↔ AllPass t run epsilon posts (run .times)
+  pub autonomous-exactly : (word : ℕ) → StepAsked t run posts
+      → PastGuards (transitionOf t run epsilon posts word .answer) ↔ AllPass t run epsilon posts (run .times)
   unfolding autonomousOf
   autonomous-exactly word q =
       subst (λ (s : Stepped). PastGuards (s .answer) ↔ AllPass t run epsilon posts (run .times)) (reached-autonomous word q)
@@ -152,13 +161,15 @@ module _ (t : List ℕ) (run : ProgramGraphRun) (posts : List ℕ) where
   plain-exactly a word q =
       subst (λ (s : Stepped). PastGuards (s .answer) ↔ AllPass t run a posts (clocksAfter t a (run .times))) (reached-plain a word q)
       (through
-      (guards (λ (s : Stepped). s .answer) (readyOf t (run .vars) (run .times) (clocksAfter t a (run .times)) (run .places) (run .processes) a posts)
+      (guards (λ (s : Stepped). s .answer)
+      (readyOf t (run .vars) (run .times) (clocksAfter t a (run .times)) (run .places) (run .processes) a posts)
       (refused 8 run) _ refl
       (skip (λ (s : Stepped). s .answer) 8 _ (refused 26 run) _ (λ e. omega arith) (λ e. omega arith)))
       (all-pass a (clocksAfter t a (run .times))))
 
   -- A send gets past its guards exactly when each process has a transition that passes, on the clocks as they are.
-  pub send-exactly : (a word : ℕ) → MessageAsked t run a posts → PastGuards (sendOf t run a posts word .answer) ↔ AllPass t run a posts (run .times)
+  pub send-exactly : (a word : ℕ) → MessageAsked t run a posts
+      → PastGuards (sendOf t run a posts word .answer) ↔ AllPass t run a posts (run .times)
   unfolding saidOf
   send-exactly a word q =
       subst (λ (s : Sent). PastGuards (s .answer) ↔ AllPass t run a posts (run .times)) (reached-send a word q)
@@ -169,7 +180,8 @@ module _ (t : List ℕ) (run : ProgramGraphRun) (posts : List ℕ) where
       (all-pass a (run .times)))
 
   -- So does a receive.
-  pub receive-exactly : (a : ℕ) (m : Message) → MessageAsked t run a posts → PastGuards (receiveOf t run a posts m .answer) ↔ AllPass t run a posts (run .times)
+  pub receive-exactly : (a : ℕ) (m : Message) → MessageAsked t run a posts
+      → PastGuards (receiveOf t run a posts m .answer) ↔ AllPass t run a posts (run .times)
   unfolding heardOf
   receive-exactly a m q =
       subst (λ (s : Received). PastGuards (s .answer) ↔ AllPass t run a posts (run .times)) (reached-receive a m q)

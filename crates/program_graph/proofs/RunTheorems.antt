@@ -8,7 +8,7 @@ use native.Mathlib.Decide.{ℕ-discrete}
 use native.Mathlib.Omega.{arith}
 use borrow.Author.Tests.{eqb-true, ltb-true}
 use lib.Dec.{eqb}
-use lib.ListN.{getD, replicate}
+use lib.ListN.{getD}
 use Rattle.laws.specs.Ladder.{unless}
 use Rattle.laws.specs.Below.{_and_}
 use Rattle.laws.proofs.Ladder.{passed, rung}
@@ -19,15 +19,15 @@ use Rattle.grammar.specs.Evaluation.{blank}
 use Rattle.grammar.specs.declared.values.Slot.{Slot}
 use Rattle.grammar.specs.declared.evaluation.Evaluated.the-variants.{Known}
 use Rattle.graph_tables.specs.Refusals.{refusal}
-use Rattle.graph_tables.specs.Sizes.{variableRoom, sendKind, receiveKind, lastTime}
+use Rattle.graph_tables.specs.Sizes.{messageRoom, sendKind, receiveKind, lastTime}
 use Rattle.graph_tables.specs.declared.handed.Message.{Message}
-use Rattle.graph_tables.specs.Words.{variableCount, clockCount, resetCount, resetAt, effectCount, effectVar, invariantGroup, clockOf, limitRange, epsilon}
+use Rattle.graph_tables.specs.Words.{variableCount, clockCount, resetCount, resetAt, effectCount, effectVar, invariantGroup, clockOf}
+use Rattle.graph_tables.specs.Words.{limitRange, epsilon}
 use Rattle.graph_tables.specs.Sound.{Sound}
-use Rattle.graph_steps.specs.Steps.{clocksAfter, effectedOf, clockFits, shiftedBelow, placeHolds}
-use Rattle.graph_steps.specs.Messages.{spokenOf, messageOf, noMessage, takenOf}
-use Rattle.graph_steps.specs.declared.inner.effects.Effected.{Effected}
-use Rattle.graph_steps.proofs.StepLaws.{fits-at, clock-fits, reset-at, reset-other, shifted-at, placed-at, effects-other}
-use Rattle.graph_steps.proofs.MessageLaws.{taken-kept, taken-last}
+use Rattle.run_steps.specs.Steps.{isKind, clocksAfter, effectedOf, clockFits, shiftedBelow, placeHolds}
+use Rattle.run_steps.specs.Messages.{unsaid, spokenOf, messageOf, noMessage, takenOf}
+use Rattle.run_steps.proofs.StepLaws.{fits-at, clock-fits, reset-at, reset-other, shifted-at, placed-at, effects-other}
+use Rattle.run_steps.proofs.MessageLaws.{taken-kept, taken-last}
 use Rattle.program_graph.specs.Facts.{Sized, Ok, InvariantsAt, Holding, AllPass, PlainAsked}
 use Rattle.program_graph.specs.declared.record.ProgramGraphRun.{ProgramGraphRun}
 use Rattle.program_graph.specs.declared.answers.Stepped.{Stepped}
@@ -36,9 +36,11 @@ use Rattle.program_graph.specs.declared.answers.Sent.{Sent}
 use Rattle.program_graph.specs.declared.answers.Received.{Received}
 use Rattle.program_graph.specs.declared.answers.Held.{Held}
 use Rattle.program_graph.specs.declared.answers.Held.the-variants as Held
-use Rattle.program_graph.specs.Running.{refused, accepted, refusedWait, acceptedWait, fitsTable, readyStill, movedTo, autonomousOf, plainOf, actedOf, stepOf, transitionOf, waitFits, waitHolds, later, waitedOf, waitOf, canWaitOf}
-use Rattle.program_graph.specs.Messaging.{refusedSend, refusedReceive, isKind, saidOf, sentOf, sendOf, heardOf, receivedOf, receiveOf}
-use Rattle.program_graph.proofs.SaidLaws.{turn, said, message-at}
+use Rattle.program_graph.specs.Running.{refused, refusedWait, acceptedWait, fitsTable, readyStill, movedTo, autonomousOf}
+use Rattle.program_graph.specs.Running.{plainOf, actedOf, stepOf, transitionOf, waitFits, waitHolds, later, waitedOf, waitOf}
+use Rattle.program_graph.specs.Running.{canWaitOf}
+use Rattle.program_graph.specs.Messaging.{refusedSend, refusedReceive, saidOf, sentOf, sendOf, heardOf, receivedOf, receiveOf}
+use Rattle.program_graph.proofs.SaidLaws.{turn, said}
 use Rattle.program_graph.proofs.RunLaws.{fitting, same-clocks, places-room, clocks-room, places-below, either-way}
 use Rattle.program_graph.proofs.AnswerLaws.{accepted-ok, is-ok, not-ok, Returns}
 use Rattle.program_graph.proofs.RunReady.{invariant-at, invariants-from, step-asked, all-pass}
@@ -55,7 +57,8 @@ asked true false h run after = (λ e. let z : _≡_ {A = ℕ} 0 1 = cc in absurd
 asked false w h run after = (λ e. let z : _≡_ {A = ℕ} 0 1 = cc in absurd (omega arith), not-ok)
 
 -- `can_wait` says yes exactly when `wait` is accepted.
-pub can-wait-exactly : (t : List ℕ) (run : ProgramGraphRun) (delta : ℕ) → (canWaitOf t run delta ≡ Held.Is true) ↔ Ok (waitOf t run delta .answer)
+pub can-wait-exactly : (t : List ℕ) (run : ProgramGraphRun) (delta : ℕ)
+    → (canWaitOf t run delta ≡ Held.Is true) ↔ Ok (waitOf t run delta .answer)
 unfolding canWaitOf waitOf waitedOf
 can-wait-exactly t run delta = asked (fitsTable t run) (waitFits run delta) (waitHolds t run delta) run (later run delta)
 
@@ -114,7 +117,8 @@ module _ (t : List ℕ) (run : ProgramGraphRun) where
 
 -- ---- what an accepted call does
 -- a call of an action whose processes were ready moved them to their posts
-record Moved (t : List ℕ) (run : ProgramGraphRun) (a : ℕ) (posts : List ℕ) (vars : List Slot) (clocks : List ℕ) (after : ProgramGraphRun) : Type 0 where
+record Moved (t : List ℕ) (run : ProgramGraphRun) (a : ℕ) (posts : List ℕ) (vars : List Slot) (clocks : List ℕ)
+    (after : ProgramGraphRun) : Type 0 where
   fits : fitsTable t run ≡ true
   ready : AllPass t run a posts clocks
   same : after ≡ movedTo run posts vars clocks
@@ -123,14 +127,17 @@ module _ {t : List ℕ} {run : ProgramGraphRun} {a : ℕ} {posts : List ℕ} {va
     (m : Moved t run a posts vars clocks after) where
   -- each process is at its post
   at-posts : Sized run → (p : ℕ) → p < run .processes → getD (after .places) p 0 ≡ getD posts p 0
-  at-posts z p l = ap (λ (r : ProgramGraphRun). getD (r .places) p 0) (m .same) ∙ placed-at (run .places) posts (run .processes) p l (places-room t run (m .fits) z)
+  at-posts z p l =
+      ap (λ (r : ProgramGraphRun). getD (r .places) p 0) (m .same)
+      ∙ placed-at (run .places) posts (run .processes) p l (places-room t run (m .fits) z)
 
   -- whose invariants hold
   holding : Sized run → Holding t after
   holding z =
       subst (λ (r : ProgramGraphRun). Holding t r) (sym (m .same))
       (λ p l.
-      subst (λ (x : ℕ). InvariantsAt t clocks x) (sym (placed-at (run .places) posts (run .processes) p l (places-room t run (m .fits) z))) (m .ready p l .1 .invariants))
+      subst (λ (x : ℕ). InvariantsAt t clocks x) (sym (placed-at (run .places) posts (run .processes) p l (places-room t run (m .fits) z)))
+      (m .ready p l .1 .invariants))
 
   -- the variables and the clocks are these
   its-vars : after .vars ≡ vars
@@ -155,7 +162,8 @@ module _ (t : List ℕ) (run : ProgramGraphRun) (posts : List ℕ) (word : ℕ) 
 
   -- an accepted step by another action
   plain-moved : (a : ℕ) → (a ≡ epsilon → ⊥) → Ok (transitionOf t run a posts word .answer)
-      → PlainAsked t run a posts × Moved t run a posts (effectedOf t a (run .vars) word .vars) (clocksAfter t a (run .times)) (transitionOf t run a posts word .run)
+      → PlainAsked t run a posts
+      × Moved t run a posts (effectedOf t a (run .vars) word .vars) (clocksAfter t a (run .times)) (transitionOf t run a posts word .run)
   unfolding transitionOf stepOf actedOf plainOf
   plain-moved a n =
       let P : Stepped → Type 0
@@ -210,27 +218,25 @@ module _ (t : List ℕ) (run : ProgramGraphRun) (posts : List ℕ) (word : ℕ) 
 
   -- After an accepted plain step each other clock is as before.
   pub plain-other-clock : (a : ℕ) → (a ≡ epsilon → ⊥) → Ok (transitionOf t run a posts word .answer)
-      → (c : ℕ) → ((i : ℕ) → i < resetCount t a → resetAt t a i ≡ c → ⊥) → getD (transitionOf t run a posts word .run .times) c 0 ≡ getD (run .times) c 0
+      → (c : ℕ) → ((i : ℕ) → i < resetCount t a → resetAt t a i ≡ c → ⊥)
+      → getD (transitionOf t run a posts word .run .times) c 0 ≡ getD (run .times) c 0
   plain-other-clock a n e c none =
       ap (λ (x : List ℕ). getD x c 0) (its-clocks (plain-moved a n e .1)) ∙ reset-other t a (run .times) (resetCount t a) c none
 
   -- After an accepted plain step each variable that no effect assigns is as before.
   pub plain-other-variable : (a : ℕ) → (a ≡ epsilon → ⊥) → Ok (transitionOf t run a posts word .answer)
-      → (v : ℕ) → ((e : ℕ) → e < effectCount t a → effectVar t a e ≡ v → ⊥) → getD (transitionOf t run a posts word .run .vars) v blank ≡ getD (run .vars) v blank
+      → (v : ℕ) → ((e : ℕ) → e < effectCount t a → effectVar t a e ≡ v → ⊥)
+      → getD (transitionOf t run a posts word .run .vars) v blank ≡ getD (run .vars) v blank
   plain-other-variable a n e v none =
       ap (λ (x : List Slot). getD x v blank) (its-vars (plain-moved a n e .1)) ∙ effects-other t a _ (effectCount t a) v none
 
 -- ---- a send
 module _ (t : List ℕ) (run : ProgramGraphRun) (a : ℕ) (posts : List ℕ) (word : ℕ) where
-  -- where a send begins: no value yet, and the word that is handed
-  abbrev pub begun : Effected
-  begun = record { vars = replicate variableRoom blank; word = word; fits = true }
-
   -- what an accepted send passed, its message, and the run after it
   record Said (sent : Sent) : Type 0 where
     kind : isKind t a sendKind ≡ true
     fit : spokenOf t a (run .vars) word .fits ≡ true
-    message : sent .message ≡ messageOf (spokenOf t a (run .vars) word .vars) (effectCount t a)
+    message : sent .message ≡ messageOf (spokenOf t a (run .vars) word .values) (effectCount t a)
     moved : Moved t run a posts (run .vars) (run .times) (sent .run)
 
   -- an accepted send
@@ -245,7 +251,12 @@ module _ (t : List ℕ) (run : ProgramGraphRun) (a : ℕ) (posts : List ℕ) (wo
       (λ r. rung P _ (refusedSend 14 run) _ not-ok
       (λ k. rung P _ (refusedSend 26 run) _ not-ok
       (λ v e.
-      record { kind = k; fit = v; message = refl; moved = record { fits = f; ready = all-pass t run posts a (run .times) .0 r; same = refl } }))))))
+      record {
+        kind = k;
+        fit = v;
+        message = refl;
+        moved = record { fits = f; ready = all-pass t run posts a (run .times) .0 r; same = refl };
+      }))))))
 
   -- After an accepted send each process is at its post.
   pub send-moves : Ok (sendOf t run a posts word .answer) → Sized run
@@ -264,15 +275,16 @@ module _ (t : List ℕ) (run : ProgramGraphRun) (a : ℕ) (posts : List ℕ) (wo
   -- The message of an accepted send has a value for each expression: the expression's on the variables as they are.
   pub send-says : Ok (sendOf t run a posts word .answer)
       → (sendOf t run a posts word .message .count ≡ effectCount t a)
-      × ((e : ℕ) → e < effectCount t a → turn t a (run .vars) begun e .value ≡ Known (getD (sendOf t run a posts word .message .values) e blank .value))
+      × ((e : ℕ) → e < effectCount t a
+      → turn t a (run .vars) (unsaid word) e .value ≡ Known (getD (sendOf t run a posts word .message .values) e blank .value))
   send-says h =
       let q = send-moved h in
-      let few : effectCount t a ≤ 4
-      = fitting t run (q .moved .fits) .0 .action a (ltb-true _ _ (and-first _ _ (q .kind))) .send (eqb-true _ _ (and-rest _ _ (q .kind))) .few in (
+      let few : effectCount t a ≤ messageRoom
+      = fitting t run (q .moved .fits) .0 .action a (ltb-true _ _ (and-first _ _ (q .kind))) .send
+      (eqb-true _ _ (and-rest _ _ (q .kind))) .few in (
         ap (λ (m : Message). m .count) (q .message),
-        λ e l. said t a (run .vars) begun (effectCount t a) (q .fit) (omega arith) .1 e l
-            ∙ ap (λ (x : Slot). Known (x .value))
-            (sym (ap (λ (m : Message). getD (m .values) e blank) (q .message) ∙ message-at (spokenOf t a (run .vars) word .vars) (effectCount t a) e (omega arith))),
+        λ e l. said t a (run .vars) (unsaid word) (effectCount t a) (q .fit) (omega arith) .1 e l
+            ∙ ap (λ (m : Message). Known (getD (m .values) e blank .value)) (sym (q .message)),
       )
 
 -- ---- a receive
@@ -307,7 +319,8 @@ module _ (t : List ℕ) (run : ProgramGraphRun) (a : ℕ) (posts : List ℕ) (m 
 
   -- After an accepted receive each variable that takes no value is as before.
   pub receive-other-variable : Ok (receiveOf t run a posts m .answer)
-      → (v : ℕ) → ((e : ℕ) → e < effectCount t a → effectVar t a e ≡ v → ⊥) → getD (receiveOf t run a posts m .run .vars) v blank ≡ getD (run .vars) v blank
+      → (v : ℕ) → ((e : ℕ) → e < effectCount t a → effectVar t a e ≡ v → ⊥)
+      → getD (receiveOf t run a posts m .run .vars) v blank ≡ getD (run .vars) v blank
   receive-other-variable e v none =
       ap (λ (x : List Slot). getD x v blank) (its-vars (receive-moved e .1)) ∙ taken-kept t a m (run .vars) (effectCount t a) v none
 
@@ -350,7 +363,8 @@ module _ (t : List ℕ) (run : ProgramGraphRun) (delta : ℕ) where
 
   -- On a run that fits its table a wait is accepted exactly when no clock passes lastTime and every invariant holds at its end.
   pub wait-exactly : fitsTable t run ≡ true
-      → (Ok (waitOf t run delta .answer)) ↔ (((c : ℕ) → c < run .clocks → getD (run .times) c 0 + delta ≤ lastTime) × Holding t (later run delta))
+      → (Ok (waitOf t run delta .answer))
+      ↔ (((c : ℕ) → c < run .clocks → getD (run .times) c 0 + delta ≤ lastTime) × Holding t (later run delta))
   unfolding waitOf waitedOf placeHolds
   wait-exactly f = (
     λ e. (λ c l. fits-at (run .times) delta (run .clocks) c (waited e .counted) l, ends (waited e .held)),
@@ -369,10 +383,12 @@ module _ (t : List ℕ) (run : ProgramGraphRun) (delta : ℕ) where
   wait-moves e z c l =
       let w = waited e in
       ap (λ (r : ProgramGraphRun). getD (r .times) c 0) (w .same)
-      ∙ shifted-at (run .times) delta (run .clocks) c (omega (arith, same-clocks t run (fitting t run (w .fits) .1))) (clocks-room t run (w .fits) z)
+      ∙ shifted-at (run .times) delta (run .clocks) c (omega (arith, same-clocks t run (fitting t run (w .fits) .1)))
+      (clocks-room t run (w .fits) z)
 
   -- After an accepted wait every process is where it was and every variable as before.
-  pub wait-still : Ok (waitOf t run delta .answer) → (waitOf t run delta .run .places ≡ run .places) × (waitOf t run delta .run .vars ≡ run .vars)
+  pub wait-still : Ok (waitOf t run delta .answer)
+      → (waitOf t run delta .run .places ≡ run .places) × (waitOf t run delta .run .vars ≡ run .vars)
   wait-still e = (ap (λ (r : ProgramGraphRun). r .places) (waited e .same), ap (λ (r : ProgramGraphRun). r .vars) (waited e .same))
 
   -- At the end of an accepted wait the invariants of every occupied location hold.

@@ -1,26 +1,24 @@
 -- When a run is waiting, and when the listing for one process is refused: exactly when.
-use Prim.Native.Nat.{ℕ, _<_}
-use mathlib.Core.Path.{_≡_, refl, sym, ap, _∙_}
+use Prim.Native.Nat.{ℕ}
+use mathlib.Core.Path.{_≡_, refl, sym, ap}
 use mathlib.Core.Bool.{Bool, true, false, not, _||_}
 use mathlib.Core.List.{List}
 use mathlib.Core.Logic.{_↔_, _⊎_, inl, inr, ⊎-elim}
 use native.Mathlib.Omega.{arith}
 use borrow.Author.Tests.{eqb-true, eq-eqb, ne-eqb, not-true}
-use lib.Dec.{eqb}
-use lib.ListN.{getD}
 use Rattle.laws.specs.Ladder.{unless}
 use Rattle.laws.specs.Below.{_and_}
 use Rattle.laws.proofs.Ladder.{passed, stopped}
 use Rattle.laws.proofs.BelowLaws.{and-first, and-rest, and-both, all-at, all-from}
 use Rattle.laws.proofs.Tests.{never}
 use Rattle.graph_tables.specs.Refusals.{refusal}
-use Rattle.graph_tables.specs.Words.{transitionCount, invariantCount, keyOf, limitCount, preOf, actionOf, postOf, invariantGroup, clockOf, limitRange}
-use Rattle.graph_steps.specs.Waiting.{lowerUnmet, upperHolds, dueOf, comingOf, leavesBy, placeHas, sharedOf, awaitedOf, processWaits, waitingOf}
-use Rattle.graph_steps.specs.Passing.{Has}
-use Rattle.graph_steps.proofs.AnyLaws.{any-some, any-found}
+use Rattle.graph_tables.specs.Words.{transitionCount}
+use Rattle.run_steps.specs.Waiting.{lowerUnmet, upperHolds, dueOf, comingOf, awaitedOf, processWaits, waitingOf}
+use Rattle.run_steps.proofs.AnyLaws.{either, any-some, any-found}
+use Rattle.run_steps.proofs.ListingTheorems.{shared-by}
 use Rattle.program_graph.specs.Facts.{Due, Awaited}
 use Rattle.program_graph.specs.Running.{fitsTable, waitOpen, canWaitOf, isWaitingOf}
-use Rattle.program_graph.specs.Transitions.{listed, entryOrEnd, possibleOf, nosyncOf}
+use Rattle.program_graph.specs.Transitions.{possibleOf, nosyncOf}
 use Rattle.program_graph.specs.declared.record.ProgramGraphRun.{ProgramGraphRun}
 use Rattle.program_graph.specs.declared.answers.Held.{Held}
 use Rattle.program_graph.specs.declared.answers.Held.the-variants as Held
@@ -28,10 +26,6 @@ use Rattle.program_graph.specs.declared.answers.Listed.{Listed}
 use Rattle.program_graph.specs.declared.answers.Listed.the-variants as Listed
 
 -- ---- tests
-either : (a b : Bool) → (a || b) ≡ true → (a ≡ true) ⊎ (b ≡ true)
-either true b h = inl refl
-either false b h = inr h
-
 one-of : (a b : Bool) → (a ≡ true) ⊎ (b ≡ true) → (a || b) ≡ true
 one-of true b h = refl
 one-of false b h = ⊎-elim (λ (e : false ≡ true). never e) (λ (e : b ≡ true). e) h
@@ -42,27 +36,18 @@ module _ (t : List ℕ) (g n : ℕ) (clocks : List ℕ) where
   unfolding dueOf lowerUnmet upperHolds
   due-so h =
       let s = any-some (lowerUnmet t g clocks) n (and-first _ _ h) in
-      record { limit = s .0; within = s .1; unmet = not-true _ (s .2); not-passed = λ i l. all-at (upperHolds t g clocks) n i (and-rest _ _ h) l }
+      record {
+        limit = s .0;
+        within = s .1;
+        unmet = not-true _ (s .2);
+        not-passed = λ i l. all-at (upperHolds t g clocks) n i (and-rest _ _ h) l;
+      }
 
   due-from : Due t g n clocks → dueOf t g n clocks ≡ true
   unfolding dueOf lowerUnmet upperHolds
   due-from d =
-      and-both (any-found (lowerUnmet t g clocks) n (d .limit) (d .within) (ap not (d .unmet))) (all-from (upperHolds t g clocks) n (d .not-passed))
-
--- ---- actions that every process's location has
-module _ (t places : List ℕ) (n action : ℕ) where
-  shared-so : sharedOf t places n action ≡ true → (q : ℕ) → q < n → Has t (getD places q 0) action
-  unfolding sharedOf placeHas leavesBy
-  shared-so h q l =
-      let s = any-some (leavesBy t (getD places q 0) action) (transitionCount t) (all-at (placeHas t places action) n q h l) in
-      record { transition = s .0; known = s .1; pre = eqb-true _ _ (and-first _ _ (s .2)); by = eqb-true _ _ (and-rest _ _ (s .2)) }
-
-  shared-from : ((q : ℕ) → q < n → Has t (getD places q 0) action) → sharedOf t places n action ≡ true
-  unfolding sharedOf placeHas leavesBy
-  shared-from f =
-      all-from (placeHas t places action) n
-      (λ q l. any-found (leavesBy t (getD places q 0) action) (transitionCount t) (f q l .transition) (f q l .known)
-      (and-both (eq-eqb _ _ (f q l .pre)) (eq-eqb _ _ (f q l .by))))
+      and-both (any-found (lowerUnmet t g clocks) n (d .limit) (d .within) (ap not (d .unmet)))
+      (all-from (upperHolds t g clocks) n (d .not-passed))
 
 -- ---- some transition will be open later
 module _ (t clocks places : List ℕ) (n : ℕ) where
@@ -82,7 +67,7 @@ module _ (t clocks places : List ℕ) (n : ℕ) where
             known = k .1;
             from = eqb-true _ _ (and-first _ _ (k .2));
             coming = ⊎-elim (λ e. inl (due-so _ _ _ _ e)) (λ e. inr (due-so _ _ _ _ e)) (either _ _ (and-first _ _ c));
-            shared = shared-so _ _ _ _ (and-rest _ _ c);
+            shared = shared-by t places n _ .0 (and-rest _ _ c);
           }
 
       from : Awaited t clocks places n → waitingOf t clocks places n ≡ true
@@ -90,7 +75,8 @@ module _ (t clocks places : List ℕ) (n : ℕ) where
           any-found (processWaits t clocks places n) n (a .process) (a .here)
           (any-found (awaitedOf t clocks places n (a .process)) (transitionCount t) (a .transition) (a .known)
           (and-both (eq-eqb _ _ (a .from))
-          (and-both (one-of _ _ (⊎-elim (λ d. inl (due-from _ _ _ _ d)) (λ d. inr (due-from _ _ _ _ d)) (a .coming))) (shared-from _ _ _ _ (a .shared)))))
+          (and-both (one-of _ _ (⊎-elim (λ d. inl (due-from _ _ _ _ d)) (λ d. inr (due-from _ _ _ _ d)) (a .coming)))
+          (shared-by t places n _ .1 (a .shared)))))
 
 -- an answer that something holds
 held-so : (f b : Bool) → (unless f (Held.Refused (refusal 32)) (Held.Is b) ≡ Held.Is true) ↔ ((f ≡ true) × (b ≡ true))
@@ -100,14 +86,16 @@ held-so true false = (λ e. let z : _≡_ {A = ℕ} 0 1 = cc in absurd (omega ar
 held-so false b = (λ e. let z : _≡_ {A = ℕ} 0 1 = cc in absurd (omega arith), λ q. never (q .0))
 
 module _ (t : List ℕ) (run : ProgramGraphRun) where
-  -- `is_waiting` says yes exactly when a wait of 1 would be accepted and some transition will be open later: one from a process's location, by an
-  -- action that every process's location has, some of whose bounds are not met yet and none passed.
-  pub is-waiting-exactly : (isWaitingOf t run ≡ Held.Is true) ↔ ((canWaitOf t run 1 ≡ Held.Is true) × Awaited t (run .times) (run .places) (run .processes))
+  -- `is_waiting` says yes exactly when a wait of 1 would be accepted and some transition will be open later: one from a process's location,
+  -- by an action that every process's location has, some of whose bounds are not met yet and none passed.
+  pub is-waiting-exactly : (isWaitingOf t run ≡ Held.Is true)
+      ↔ ((canWaitOf t run 1 ≡ Held.Is true) × Awaited t (run .times) (run .places) (run .processes))
   unfolding isWaitingOf canWaitOf
   is-waiting-exactly = (
     λ h.
         let q = held-so (fitsTable t run) _ .0 h in
-        (held-so (fitsTable t run) (waitOpen t run 1) .1 (q .0, and-first _ _ (q .1)), waiting-exactly t (run .times) (run .places) (run .processes) .0 (and-rest _ _ (q .1))),
+        let w = waiting-exactly t (run .times) (run .places) (run .processes) .0 (and-rest _ _ (q .1)) in
+        (held-so (fitsTable t run) (waitOpen t run 1) .1 (q .0, and-first _ _ (q .1)), w),
     λ h.
         let q = held-so (fitsTable t run) (waitOpen t run 1) .0 (h .0) in
         held-so (fitsTable t run) _ .1 (q .0, and-both (q .1) (waiting-exactly t (run .times) (run .places) (run .processes) .1 (h .1))),
@@ -117,7 +105,9 @@ module _ (t : List ℕ) (run : ProgramGraphRun) where
   -- With one process it lists what the other listing does.
   pub one-process : (k : ℕ) → run .processes ≡ 1 → nosyncOf t run k ≡ possibleOf t run k
   unfolding nosyncOf possibleOf
-  one-process k e = ap (λ (rest : Listed). unless (fitsTable t run) (Listed.Refused (refusal 32)) rest) (sym (passed (Listed.Refused (refusal 16)) (eq-eqb _ _ e) refl))
+  one-process k e =
+      ap (λ (rest : Listed). unless (fitsTable t run) (Listed.Refused (refusal 32)) rest)
+      (sym (passed (Listed.Refused (refusal 16)) (eq-eqb _ _ e) refl))
 
   -- With any other number it refuses with 16.
   pub not-one-process : (k : ℕ) → fitsTable t run ≡ true → (run .processes ≡ 1 → ⊥) → nosyncOf t run k ≡ Listed.Refused (refusal 16)

@@ -1,5 +1,5 @@
 -- What the theorems on a run speak of.
-use Prim.Native.Nat.{ℕ, _+_, _<_}
+use Prim.Native.Nat.{ℕ, _<_}
 use mathlib.Core.Path.{_≡_}
 use mathlib.Core.Bool.{true, false}
 use mathlib.Core.Logic.{_⊎_}
@@ -14,9 +14,10 @@ use Rattle.grammar.specs.declared.evaluation.Evaluated.the-variants.{Known}
 use Rattle.graph_tables.specs.Sizes.{processRoom, variableRoom, clockRoom, plainKind}
 use Rattle.graph_tables.specs.Answers.{doneNumber}
 use Rattle.graph_tables.specs.declared.answers.Done.{Done}
-use Rattle.graph_tables.specs.Words.{locationCount, actionCount, transitionCount, invariantCount, actionKind, effectCount, effectItems, keyOf, limitCount, preOf, actionOf, postOf, invariantGroup, clockOf, limitRange, epsilon}
-use Rattle.graph_steps.specs.Steps.{guardHolds, effectsBelow}
-use Rattle.graph_steps.specs.Passing.{Has}
+use Rattle.graph_tables.specs.Words.{locationCount, actionCount, transitionCount, invariantCount, actionKind, effectCount, effectItems}
+use Rattle.graph_tables.specs.Words.{keyOf, limitCount, preOf, actionOf, postOf, invariantGroup, clockOf, limitRange, epsilon}
+use Rattle.run_steps.specs.Steps.{guardHolds, unchanged, effectsBelow}
+use Rattle.run_steps.specs.Rows.{Has}
 use Rattle.program_graph.specs.Running.{fitsTable}
 use Rattle.program_graph.specs.declared.record.ProgramGraphRun.{ProgramGraphRun}
 
@@ -38,7 +39,8 @@ Not n d = doneNumber d ≡ n → ⊥
 -- ---- invariants
 -- each invariant of location l holds on the clocks
 abbrev pub InvariantsAt : List ℕ → List ℕ → ℕ → Type 0
-InvariantsAt t clocks l = (i : ℕ) → i < invariantCount t l → inRange (limitRange t (invariantGroup l) i) (getD clocks (clockOf t (invariantGroup l) i) 0) ≡ true
+InvariantsAt t clocks l =
+    (i : ℕ) → i < invariantCount t l → inRange (limitRange t (invariantGroup l) i) (getD clocks (clockOf t (invariantGroup l) i) 0) ≡ true
 
 -- each invariant of every occupied location holds
 abbrev pub Holding : List ℕ → ProgramGraphRun → Type 0
@@ -92,13 +94,14 @@ pub record MessageAsked (t : List ℕ) (run : ProgramGraphRun) (a : ℕ) (posts 
 abbrev pub Valued : Evaluated → Type 0
 Valued e = (x : Val) × (e ≡ Known x)
 
--- each effect of plain action a has a value in its turn: on the variables that the effects before it left, and on what they left of the word
+-- each effect of plain action a has a value in its turn: on the variables that the effects before it left, and on what they left of the
+-- word
 abbrev pub EffectsValued : List ℕ → ℕ → List Slot → ℕ → Type 0
 EffectsValued t a vars word =
     (e : ℕ) → e < effectCount t a
     → Valued
-    (evaluationOf (effectsBelow t a (record { vars = vars; word = word; fits = true }) e .vars)
-    (effectsBelow t a (record { vars = vars; word = word; fits = true }) e .word) (effectItems t a e) .value)
+    (evaluationOf (effectsBelow t a (unchanged vars word) e .vars) (effectsBelow t a (unchanged vars word) e .word)
+    (effectItems t a e) .value)
 
 -- ---- waiting
 -- among the n limits of group g some lower bound is not met yet, and no upper bound is passed

@@ -3,7 +3,7 @@ use Prim.Native.Nat.{ℕ}
 use mathlib.Core.Bool.{false}
 use mathlib.Core.List.{List, [], _∷_, map}
 use lib.IntN.{pos}
-use lib.ListN.{replicate}
+use lib.ListN.{set, replicate}
 use Rattle.laws.specs.Examples.{Examples, end, gives}
 use Rattle.time.specs.Marked.{examples as time-examples}
 use Rattle.time.specs.Time.{rangeOf}
@@ -14,11 +14,13 @@ use Rattle.grammar.specs.Items.{wordOf}
 use Rattle.grammar.specs.declared.values.Val.the-variants.{Integer}
 use Rattle.grammar.specs.declared.items.Binary.the-variants.{Add}
 use Rattle.grammar.specs.declared.items.Item.the-variants.{Constant, Variable, Binary}
-use Rattle.graph_tables.specs.Handed.{blankLimit, noLimits}
+use Rattle.graph_tables.specs.Layout.{tableWords}
+use Rattle.graph_tables.specs.Handed.{noLimits}
 use Rattle.graph_tables.specs.declared.handed.Limits.{Limits}
 use Rattle.graph_tables.specs.Answers.{doneNumber}
 use Rattle.graph_builder.specs.Building.{emptyOf}
-use Rattle.graph_builder.specs.Chains.{Call, new-var, new-clock, new-action, add-reset, add-effect, new-timed-location, new-initial-location, add-transition, afterAll}
+use Rattle.graph_builder.specs.Chains.{Call, new-var, new-clock, new-action, add-reset, add-effect, new-timed-location}
+use Rattle.graph_builder.specs.Chains.{new-initial-location, add-transition, afterAll}
 use Rattle.program_graph.specs.Running.{newRunOf, transitionOf, waitOf, valueIn}
 use Rattle.program_graph.specs.declared.answers.Value.{Value}
 use Rattle.program_graph.specs.declared.answers.Value.the-variants.{Is}
@@ -30,11 +32,12 @@ both (gives x y rest) b = gives x y (both rest b)
 
 -- the graph that these calls build
 abbrev graph : List Call → List ℕ
-graph calls = afterAll (emptyOf (replicate 46890 0) .table) calls
+graph calls = afterAll (emptyOf (replicate tableWords 0) .table) calls
 
 -- a limit on the first clock
 abbrev within : Bound → Bound → Limits
-within lower upper = record { limits = record { clock = record { 0 = 0 }; range = rangeOf lower upper } ∷ replicate 7 blankLimit; count = 1 }
+within lower upper =
+    record { limits = set (noLimits .limits) 0 (record { clock = record { 0 = 0 }; range = rangeOf lower upper }); count = 1 }
 
 abbrev atMost : ℕ → Limits
 atMost n = within Unbounded (Included n)

@@ -1,25 +1,21 @@
 -- The graph's own send and receive: the answer, the values, and the run afterwards (docs/RULES.md, 'Messages').
 use Prim.Native.Nat.{ℕ}
-use mathlib.Core.Bool.{Bool, not}
+use mathlib.Core.Bool.{not}
 use mathlib.Core.List.{List}
-use lib.Dec.{eqb, ltb}
+use lib.Dec.{eqb}
 use lib.ListN.{length}
 use Rattle.laws.specs.Ladder.{unless}
-use Rattle.laws.specs.Below.{_and_}
 use Rattle.graph_tables.specs.Sizes.{sendKind, receiveKind}
 use Rattle.graph_tables.specs.Refusals.{refusal}
 use Rattle.graph_tables.specs.declared.answers.Done.the-variants as Done
 use Rattle.graph_tables.specs.declared.handed.Message.{Message}
-use Rattle.graph_tables.specs.Words.{actionCount, actionKind, effectCount, epsilon}
-use Rattle.graph_steps.specs.Messages.{spokenOf, messageOf, noMessage, messageFits, takenOf}
+use Rattle.graph_tables.specs.Words.{effectCount, epsilon}
+use Rattle.run_steps.specs.Steps.{isKind}
+use Rattle.run_steps.specs.Messages.{spokenOf, messageOf, noMessage, messageFits, takenOf}
 use Rattle.program_graph.specs.Running.{fitsTable, readyStill, movedTo}
 use Rattle.program_graph.specs.declared.record.ProgramGraphRun.{ProgramGraphRun}
 use Rattle.program_graph.specs.declared.answers.Sent.{Sent}
 use Rattle.program_graph.specs.declared.answers.Received.{Received}
-
--- the action is of a kind
-abbrev pub isKind : List ℕ → ℕ → ℕ → Bool
-isKind t a kind = ltb a (actionCount t) and eqb (actionKind t a) kind
 
 -- ---- a send: its values come from the variables as they are; variables and clocks stay
 abbrev pub refusedSend : ℕ → ProgramGraphRun → Sent
@@ -31,7 +27,7 @@ saidOf t run a posts word =
     unless (spokenOf t a (run .vars) word .fits) (refusedSend 26 run)
     record {
       answer = Done.Accepted;
-      message = messageOf (spokenOf t a (run .vars) word .vars) (effectCount t a);
+      message = messageOf (spokenOf t a (run .vars) word .values) (effectCount t a);
       run = movedTo run posts (run .vars) (run .times);
     }
 

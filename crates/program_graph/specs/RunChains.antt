@@ -62,7 +62,8 @@ timeOn t c (receive a posts m) x = x
 -- is none, of all accepted waits and the time x before the chain.
 abbrev pub sinceReset : List ℕ → ℕ → ProgramGraphRun → List RunCall → ℕ → ℕ
 sinceReset t c run [] x = x
-sinceReset t c run (call ∷ calls) x = sinceReset t c (runAfter t run call) calls (cond (isAccepted (answerTo t run call)) (timeOn t c call x) x)
+sinceReset t c run (call ∷ calls) x =
+    sinceReset t c (runAfter t run call) calls (cond (isAccepted (answerTo t run call)) (timeOn t c call x) x)
 
 -- ---- the same in two parts: the last accepted reset, and the accepted waits behind it
 -- the time that a call takes
@@ -87,4 +88,5 @@ resetBy t c (receive a posts m) = false
 -- no accepted call of a chain resets clock c
 abbrev pub NoReset : List ℕ → ℕ → ProgramGraphRun → List RunCall → Type 0
 NoReset t c run [] = Unit {0}
-NoReset t c run (call ∷ calls) = (isAccepted (answerTo t run call) ≡ true → resetBy t c call ≡ false) × NoReset t c (runAfter t run call) calls
+NoReset t c run (call ∷ calls) =
+    (isAccepted (answerTo t run call) ≡ true → resetBy t c call ≡ false) × NoReset t c (runAfter t run call) calls

@@ -15,10 +15,11 @@ use Rattle.grammar.specs.declared.values.Val.the-variants.{Boolean, Integer}
 use Rattle.grammar.specs.declared.values.Slot.{Slot}
 use Rattle.graph_tables.specs.Sizes.{processRoom, variableRoom, clockRoom, plainKind}
 use Rattle.graph_tables.specs.Refusals.{refusal}
-use Rattle.graph_tables.specs.Words.{variableCount, clockCount, locationCount, actionCount, processCount, kindAt, valueAt, placeAt, actionKind, epsilon}
+use Rattle.graph_tables.specs.Words.{variableCount, clockCount, locationCount, actionCount, processCount, kindAt, valueAt, placeAt}
+use Rattle.graph_tables.specs.Words.{actionKind, epsilon}
 use Rattle.graph_tables.specs.Formed.{wellFormed}
-use Rattle.graph_steps.specs.Waiting.{waitingOf}
-use Rattle.graph_steps.specs.Steps.{readyOf, clocksAfter, effectedOf, placedBelow, postKnown, clockFits, shiftedBelow, placeHolds}
+use Rattle.run_steps.specs.Waiting.{waitingOf}
+use Rattle.run_steps.specs.Steps.{readyOf, clocksAfter, effectedOf, placedBelow, postKnown, clockFits, shiftedBelow, placeHolds}
 use Rattle.graph_tables.specs.declared.answers.Done.{Done}
 use Rattle.graph_tables.specs.declared.answers.Done.the-variants as Done
 use Rattle.program_graph.specs.declared.record.ProgramGraphRun.{ProgramGraphRun}

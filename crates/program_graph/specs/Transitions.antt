@@ -5,9 +5,9 @@ use lib.Dec.{eqb}
 use Rattle.laws.specs.Ladder.{unless}
 use Rattle.graph_tables.specs.Refusals.{refusal}
 use Rattle.graph_tables.specs.declared.answers.Entry.{Entry}
-use Rattle.graph_steps.specs.Listing.{seek, listingOf}
-use Rattle.graph_steps.specs.declared.inner.listing.Sought.{Sought}
-use Rattle.graph_steps.specs.declared.inner.listing.Sought.the-variants.{Found, Left}
+use Rattle.run_steps.specs.Listing.{seek, sharedEntries, listingOf}
+use Rattle.run_steps.specs.declared.inner.listing.Sought.{Sought}
+use Rattle.run_steps.specs.declared.inner.listing.Sought.the-variants.{Found, Left}
 use Rattle.program_graph.specs.Running.{fitsTable}
 use Rattle.program_graph.specs.declared.record.ProgramGraphRun.{ProgramGraphRun}
 use Rattle.program_graph.specs.declared.answers.Listed.{Listed}
@@ -16,6 +16,10 @@ use Rattle.program_graph.specs.declared.answers.Listed.the-variants as L
 -- the whole list of a run
 abbrev pub listed : List ℕ → ProgramGraphRun → List Entry
 listed t run = listingOf t (run .vars) (run .times) (run .places) (run .processes)
+
+-- the part of it that is by one action
+abbrev pub listedBy : List ℕ → ProgramGraphRun → ℕ → List Entry
+listedBy t run action = sharedEntries t (run .vars) (run .times) (run .places) (run .processes) action
 
 -- past the end of the list there is none
 abbrev pub entryOrEnd : Sought → Listed

@@ -8,11 +8,9 @@ use crate::answers::Stepped;
 use crate::answers::Time;
 use crate::answers::Value;
 use crate::answers::Waited;
+use crate::inner::by_value;
 use crate::inner::fits;
 use crate::inner::fresh;
-use crate::inner::messages;
-use crate::inner::steps;
-use crate::inner::waits;
 use crate::record::ProgramGraphRun;
 use graph_tables::answers::Done;
 use graph_tables::formed;
@@ -22,6 +20,7 @@ use graph_tables::ids::Clock;
 use graph_tables::ids::Var;
 use graph_tables::inner;
 use graph_tables::refusals::Refusal;
+use run_steps::inner::messages;
 ghost use mathlib.Core.Path.{_≡_};
 ghost use Rattle.program_graph.specs.Running.{fitsTable, transitionOf, waitOf, canWaitOf, isWaitingOf, newRunOf, statesOf, valueIn, timeOf};
 ghost use Rattle.program_graph.specs.Messaging.{sendOf, receiveOf};
@@ -58,9 +57,12 @@ impl ProgramGraphRun {
         ensures { λ r. ⌜ r ≡ transitionOf (now (t .entry)) self (action .0) (now (posts .entry)) word ⌝ }
     {
         if !fits_table(t, self) {
-            return steps::refused(self, Refusal::BadState);
+            return Stepped {
+                answer: Done::Refused(Refusal::BadState),
+                run: self,
+            };
         }
-        steps::step(self, t, action.0, posts, word)
+        by_value::step(self, t, action.0, posts, word)
     }
 
     // Time passes, if no clock overflows and every invariant holds at the end.
@@ -68,9 +70,12 @@ impl ProgramGraphRun {
         ensures { λ r. ⌜ r ≡ waitOf (now (t .entry)) self delta ⌝ }
     {
         if !fits_table(t, self) {
-            return waits::refused(self, Refusal::BadState);
+            return Waited {
+                answer: Done::Refused(Refusal::BadState),
+                run: self,
+            };
         }
-        waits::wait_on(self, t, delta)
+        by_value::wait(self, t, delta)
     }
 
     pub fn can_wait(self, t: &[u64], delta: u32) -> Held
@@ -79,7 +84,7 @@ impl ProgramGraphRun {
         if !fits_table(t, self) {
             return Held::Refused(Refusal::BadState);
         }
-        Held::Is(waits::can_wait_on(self, t, delta))
+        Held::Is(by_value::can_wait(self, t, delta))
     }
 
     // The values that a communication's expressions have. Nothing is reset.
@@ -87,9 +92,13 @@ impl ProgramGraphRun {
         ensures { λ r. ⌜ r ≡ sendOf (now (t .entry)) self (action .0) (now (posts .entry)) word ⌝ }
     {
         if !fits_table(t, self) {
-            return messages::refused_send(self, Refusal::BadState);
+            return Sent {
+                answer: Done::Refused(Refusal::BadState),
+                message: messages::no_message(),
+                run: self,
+            };
         }
-        messages::send_on(self, t, action.0, posts, word)
+        by_value::send(self, t, action.0, posts, word)
     }
 
     // The variables of a communication take the values. Nothing is reset.
@@ -97,9 +106,12 @@ impl ProgramGraphRun {
         ensures { λ r. ⌜ r ≡ receiveOf (now (t .entry)) self (action .0) (now (posts .entry)) message ⌝ }
     {
         if !fits_table(t, self) {
-            return messages::refused_receive(self, Refusal::BadState);
+            return Received {
+                answer: Done::Refused(Refusal::BadState),
+                run: self,
+            };
         }
-        messages::receive_on(self, t, action.0, posts, message)
+        by_value::receive(self, t, action.0, posts, message)
     }
 
     // Whether some transition will be open later.
@@ -109,7 +121,7 @@ impl ProgramGraphRun {
         if !fits_table(t, self) {
             return Held::Refused(Refusal::BadState);
         }
-        Held::Is(waits::is_waiting_on(self, t))
+        Held::Is(by_value::is_waiting(self, t))
     }
 
     // Where the processes are.

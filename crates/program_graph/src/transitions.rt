@@ -1,6 +1,6 @@
 // Listing what a run may do next, one entry at a time.
 use crate::answers::Listed;
-use crate::inner::listing;
+use crate::inner::by_value;
 use crate::record::ProgramGraphRun;
 use crate::run;
 use graph_tables::refusals::Refusal;
@@ -15,7 +15,7 @@ impl ProgramGraphRun {
         if !run::fits_table(t, self) {
             return Listed::Refused(Refusal::BadState);
         }
-        listing::listed_on(self, t, k)
+        by_value::entry(self, t, k)
     }
 
     // The same for a graph of one process.
@@ -28,6 +28,6 @@ impl ProgramGraphRun {
         if self.processes != 1 {
             return Listed::Refused(Refusal::Sync);
         }
-        listing::listed_on(self, t, k)
+        by_value::entry(self, t, k)
     }
 }

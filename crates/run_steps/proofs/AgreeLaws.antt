@@ -1,6 +1,6 @@
 -- Over variables that agree where the table has them, a sound table asks the same and does the same: what a run by value and its words
 -- by counts have in common.
-use Prim.Native.Nat.{ℕ, zero, suc, _+_, _<_, _≤_}
+use Prim.Native.Nat.{ℕ, zero, suc, _<_, _≤_}
 use mathlib.Core.Path.{_≡_, refl, sym, ap, _∙_}
 use mathlib.Core.Bool.{Bool, true, false, cond}
 use mathlib.Core.List.{List, []}
@@ -10,7 +10,7 @@ use lib.Dec.{eqb}
 use lib.ListN.{length, getD, set, length-set, length-drop, List·getD-eq-default}
 use lib.Seq.{getD-set-same, getD-set-other, length-take-le}
 use borrow.Author.Tests.{eq-eqb}
-use Rattle.laws.specs.Below.{_and_, allBelow, anyBelow}
+use Rattle.laws.specs.Below.{allBelow, anyBelow}
 use Rattle.grammar.specs.Evaluation.{blank, evaluationOf}
 use Rattle.grammar.specs.Typing.{typeOf}
 use Rattle.grammar.specs.declared.values.«Type».{«Type» as Kind}
@@ -20,13 +20,14 @@ use Rattle.grammar.specs.declared.evaluation.Evaluation.{Evaluation}
 use Rattle.grammar.specs.declared.evaluation.Evaluated.{Evaluated}
 use Rattle.grammar.specs.declared.evaluation.Evaluated.the-variants.{Known, NoValue}
 use Rattle.grammar.proofs.AgreeLaws.{evaluation-agree}
-use Rattle.graph_tables.specs.Sizes.{plainKind, sendKind}
+use Rattle.graph_tables.specs.Sizes.{plainKind, sendKind, receiveKind}
 use Rattle.graph_tables.specs.Words.{variableCount, actionCount, transitionCount, actionKind, kindsOf, effectCount, effectVar, effectItems, guardLength, guardItems, epsilon}
 use Rattle.graph_tables.specs.Sound.{Sound}
 use Rattle.graph_tables.specs.declared.answers.Entry.{Entry}
 use Rattle.run_steps.specs.Steps.{satisfied, invariantsHold, guardHolds, passesOf, leadsOf, processReady, readyOf, placeHolds, Effected, assigned, unchanged, effectNext, effectsBelow, effectedOf}
-use Rattle.run_steps.specs.Messages.{spokenNext, spokenBelow, spokenOf, unsaid}
-use Rattle.run_steps.specs.declared.inner.messages.Speech.{Speech}
+use Rattle.graph_tables.specs.declared.handed.Message.{Message}
+use Rattle.run_steps.specs.Messages.{spokenNext, spokenBelow, spokenOf, unsaid, takenBelow, takenOf}
+use Rattle.run_steps.proofs.MessageLaws.{taken-length, taken-kept}
 use Rattle.run_steps.specs.Waiting.{sharedOf}
 use Rattle.run_steps.specs.Listing.{clocksBy, opensBy, processEntries, sharedEntries, listingOf}
 use Rattle.run_steps.proofs.AnyLaws.{all-same, any-same}
@@ -87,14 +88,16 @@ module _ (n : ℕ) (r s : Effected) (h : Alike n r s) where
 abbrev answered : List ℕ → ℕ → Evaluation → Bool
 answered t k y = cond (eqb (guardLength t k) 0) true (satisfied (y .value))
 
-module _ (t : List ℕ) (sound : Sound t) (vars others : List Slot) (same : Agree (variableCount t) vars others) where
-  kinds : length (kindsOf t) ≡ variableCount t
-  kinds = length-take-le (variableCount t) _ (simp length-drop (omega (arith, sound .words, sound .counts .variables)))
+-- there is a kind for each variable
+pub kinds-length : (t : List ℕ) → Sound t → length (kindsOf t) ≡ variableCount t
+kinds-length t sound = length-take-le (variableCount t) _ (simp length-drop (omega (arith, sound .words, sound .counts .variables)))
 
+module _ (t : List ℕ) (sound : Sound t) (vars others : List Slot) (same : Agree (variableCount t) vars others) where
   typed-agree :
       (vars others : List Slot) → Agree (variableCount t) vars others → (items : List ℕ) (k : Kind) (word : ℕ) →
       typeOf (kindsOf t) items ≡ Typed.Known k → evaluationOf vars word items ≡ evaluationOf others word items
-  typed-agree vars others same items k word e = evaluation-agree (kindsOf t) vars others (λ v l. same v (rw kinds at l)) items k word e
+  typed-agree vars others same items k word e =
+      evaluation-agree (kindsOf t) vars others (λ v l. same v (rw (kinds-length t sound) at l)) items k word e
 
   pub guard-agree : (k : ℕ) → k < transitionCount t → guardHolds t vars k ≡ guardHolds t others k
   unfolding guardHolds
@@ -170,6 +173,28 @@ pub effected-past : (t : List ℕ) → Sound t → (vars : List Slot) (a word v 
     → getD (effectedOf t a vars word .vars) v blank ≡ getD vars v blank
 effected-past t sound vars a word v known plain h =
     effects-other t a (unchanged vars word) (effectCount t a) v (λ e l q. omega (arith, sound .action a known .plain plain .effect e l .var))
+
+-- ---- what a receive takes
+taken-same :
+    (t : List ℕ) (n : ℕ) (vars others : List Slot) → Agree n vars others → length vars ≡ length others → (a : ℕ) (m : Message) (k : ℕ)
+    → Agree n (takenBelow t a m vars k) (takenBelow t a m others k)
+unfolding takenBelow
+taken-same t n vars others same size a m zero = same
+taken-same t n vars others same size a m (suc k) =
+    set-agree n (takenBelow t a m vars k) (takenBelow t a m others k)
+    (taken-length t a m vars k ∙ size ∙ sym (taken-length t a m others k)) (taken-same t n vars others same size a m k) (effectVar t a k)
+    (getD (m .values) k blank)
+
+pub taken-agree :
+    (t : List ℕ) (vars others : List Slot) → Agree (variableCount t) vars others → length vars ≡ length others → (a : ℕ) (m : Message)
+    → Agree (variableCount t) (takenOf t a m vars) (takenOf t a m others)
+taken-agree t vars others same size a m = taken-same t (variableCount t) vars others same size a m (effectCount t a)
+
+pub taken-past :
+    (t : List ℕ) → Sound t → (vars : List Slot) (a v : ℕ) (m : Message) → a < actionCount t → actionKind t a ≡ receiveKind → variableCount t ≤ v
+    → getD (takenOf t a m vars) v blank ≡ getD vars v blank
+taken-past t sound vars a v m known receive h =
+    taken-kept t a m vars (effectCount t a) v (λ e l q. omega (arith, sound .action a known .receive receive .var e l))
 
 -- ---- Places that are the same for n processes: those past them are not read.
 module _ (t xs ys : List ℕ) (n : ℕ) (same : (p : ℕ) → p < n → getD xs p 0 ≡ getD ys p 0) where

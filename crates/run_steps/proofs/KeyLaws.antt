@@ -77,7 +77,8 @@ module _ (t : List ℕ) (vars : List Slot) (clocks after : List ℕ) where
       absurd (omega arith))))
 
 -- ---- leaving a location by an action: both stand in the first key that such a transition may have
-pub leaves-parts : {r : Bool} {first pre action : ℕ} → Asked first pre action 0 → (t : List ℕ) (k : ℕ) → r ≡ leavesBy t (preOf first) (actionOf first) k → r ≡ leavesBy t pre action k
+pub leaves-parts : {r : Bool} {first pre action : ℕ} → Asked first pre action 0 → (t : List ℕ) (k : ℕ)
+    → r ≡ leavesBy t (preOf first) (actionOf first) k → r ≡ leavesBy t pre action k
 leaves-parts {first = first} {pre = pre} s t k h =
     h ∙ ap (λ (x : ℕ). leavesBy t x (actionOf first) k) (s .pre) ∙ ap (λ (x : ℕ). leavesBy t pre x k) (s .action)
 
@@ -97,8 +98,10 @@ module _ (x y : ℕ) (z : postOf y ≡ 0) where
           and-yes (eq-eqb _ _ p)
           (eqb-same (x - postOf x) y (actionOf x) (actionOf y) (λ e. ap (λ (n : ℕ). n % word32) (front e))
           (λ a. back (above (x / locationRoom) (y / locationRoom) (sym (upper x) ∙ p ∙ upper y) a)))
-      by (no h) = ne-eqb (x - postOf x) y (λ e. h (upper x ∙ ap (λ (n : ℕ). n / word32) (front e) ∙ sym (upper y))) ∙ and-no _ (ne-eqb _ _ h)
+      by (no h) =
+          ne-eqb (x - postOf x) y (λ e. h (upper x ∙ ap (λ (n : ℕ). n / word32) (front e) ∙ sym (upper y))) ∙ and-no _ (ne-eqb _ _ h)
 
-pub leaves-first : (t : List ℕ) (first k : ℕ) → postOf first ≡ 0 → eqb (keyOf t k - postOf (keyOf t k)) first ≡ leavesBy t (preOf first) (actionOf first) k
+pub leaves-first : (t : List ℕ) (first k : ℕ) → postOf first ≡ 0
+    → eqb (keyOf t k - postOf (keyOf t k)) first ≡ leavesBy t (preOf first) (actionOf first) k
 unfolding leavesBy
 leaves-first t first k z = one-test (keyOf t k) first z

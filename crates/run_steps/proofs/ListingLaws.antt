@@ -66,10 +66,12 @@ module _ (g : ℕ → List Entry) (k : ℕ) where
   join-none = refl
 
   -- r is what was sought in list i: it is passed, or found there
-  pub join-more : {r : Sought} {m rest : ℕ} (i : ℕ) → seek (joinBelow i g) k ≡ Left m → r ≡ seek (g i) m → r ≡ Left rest → seek (joinBelow (i + 1) g) k ≡ Left rest
+  pub join-more : {r : Sought} {m rest : ℕ} (i : ℕ) → seek (joinBelow i g) k ≡ Left m → r ≡ seek (g i) m → r ≡ Left rest
+      → seek (joinBelow (i + 1) g) k ≡ Left rest
   join-more i h q e = next i h ∙ sym q ∙ e
 
-  pub join-found : {r : Sought} {m : ℕ} {e : Entry} (n i : ℕ) → i < n → seek (joinBelow i g) k ≡ Left m → r ≡ seek (g i) m → r ≡ Found e → r ≡ seek (joinBelow n g) k
+  pub join-found : {r : Sought} {m : ℕ} {e : Entry} (n i : ℕ) → i < n → seek (joinBelow i g) k ≡ Left m → r ≡ seek (g i) m → r ≡ Found e
+      → r ≡ seek (joinBelow n g) k
   join-found n i l h q e = e ∙ sym (kept n (i + 1) (omega arith) (next i h ∙ sym q ∙ e))
 
   -- all are passed
@@ -90,7 +92,8 @@ module _ {b : Bool} (e : Entry) where
 
 -- ---- a process at a location, by an action: both stand in the first key of a transition from the one by the other
 module _ (t : List ℕ) (vars : List Slot) (clocks : List ℕ) where
-  pub opens-entry : (pre action p k : ℕ) → opensBy t vars clocks pre action k ≡ true → entryOf t (actionOf (keyOf t k)) p k ≡ entryOf t action p k
+  pub opens-entry : (pre action p k : ℕ) → opensBy t vars clocks pre action k ≡ true
+      → entryOf t (actionOf (keyOf t k)) p k ≡ entryOf t action p k
   unfolding opensBy leavesBy
   opens-entry pre action p k h = ap (λ (a : ℕ). entryOf t a p k) (eqb-true _ _ (and-rest _ _ (and-first _ _ h)))
 
@@ -113,7 +116,8 @@ in-found (List·Memᴰ·head q) = (zero, ap Found (sym q))
 in-found (List·Memᴰ·tail m) = let r = in-found m in (suc (r .0), r .1)
 
 pub found-ascending :
-    (Before : Entry → Entry → Type 0) {e d : Entry} (list : List Entry) → Ascending Before list → (i j : ℕ) → i < j → seek list i ≡ Found e → seek list j ≡ Found d → Before e d
+    (Before : Entry → Entry → Type 0) {e d : Entry} (list : List Entry) → Ascending Before list → (i j : ℕ) → i < j → seek list i ≡ Found e
+    → seek list j ≡ Found d → Before e d
 found-ascending Before [] a i j l h k = let z : _≡_ {A = ℕ} 0 1 = cc in absurd (omega arith)
 found-ascending Before (x ∷ list) a i zero l h k = absurd (not-suc-le-zero l)
 found-ascending Before {e} {d} (x ∷ list) a zero (suc j) l h k = let q : x ≡ e = cc in rw q at (a .0 d (found-in list j k))

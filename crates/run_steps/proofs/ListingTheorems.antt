@@ -16,7 +16,7 @@ use Rattle.graph_tables.specs.Sizes.{actionRoom, plainKind}
 use Rattle.graph_tables.specs.Words.{actionCount, transitionCount, actionKind, keyOf, preOf, actionOf, postOf, epsilon}
 use Rattle.graph_tables.specs.Sound.{Sound}
 use Rattle.graph_tables.specs.declared.answers.Entry.{Entry}
-use Rattle.run_steps.specs.Steps.{passesOf, clocksAfter, leavesBy, leadsOf, processReady, readyOf}
+use Rattle.run_steps.specs.Steps.{clocksAfter, leavesBy, leadsOf, processReady, readyOf}
 use Rattle.run_steps.specs.Rows.{Row, entryFor, Has, Open, Before, AtMost, Catalog}
 use Rattle.run_steps.specs.Waiting.{placeHas, sharedOf}
 use Rattle.run_steps.specs.Listing.{seek, joinBelow, opensBy, entryOf, processEntries, sharedEntries, listingOf}
@@ -32,7 +32,8 @@ not-before-itself r (inr (a, inl l)) = omega arith
 not-before-itself r (inr (a, inr (p, l))) = omega arith
 
 -- ---- a transition's action is one of the table's, or the reserved one
-known-or-reserved : (t : List ℕ) → Sound t → (k : ℕ) → k < transitionCount t → (actionOf (keyOf t k) < actionCount t) ⊎ (actionOf (keyOf t k) ≡ epsilon)
+known-or-reserved : (t : List ℕ) → Sound t → (k : ℕ) → k < transitionCount t
+    → (actionOf (keyOf t k) < actionCount t) ⊎ (actionOf (keyOf t k) ≡ epsilon)
 known-or-reserved t s k l = by (ℕ-discrete (actionOf (keyOf t k)) epsilon)
   where
     by : Dec (actionOf (keyOf t k) ≡ epsilon) → (actionOf (keyOf t k) < actionCount t) ⊎ (actionOf (keyOf t k) ≡ epsilon)
@@ -58,7 +59,9 @@ module _ (t : List ℕ) where
         (leaves (getD places p 0) action (h .transition) .1 (h .pre, h .by)),
   )
 
-  shared-by : (places : List ℕ) (n action : ℕ) → (sharedOf t places n action ≡ true) ↔ ((q : ℕ) → q < n → Has t (getD places q 0) action)
+  -- an action counts exactly when every process's location has it
+  pub shared-by : (places : List ℕ) (n action : ℕ)
+      → (sharedOf t places n action ≡ true) ↔ ((q : ℕ) → q < n → Has t (getD places q 0) action)
   unfolding sharedOf
   shared-by places n action = (
     λ h q l. has places action q .0 (all-at (placeHas t places action) n q h l),
@@ -79,7 +82,8 @@ posts-ascend : (x y : ℕ) → preOf x ≡ preOf y → actionOf x ≡ actionOf y
 posts-ascend x y p a l = omega arith
 
 -- ---- entries of a catalog are sought and found
-module _ {A : Type 0} (Before : A → A → Type 0) (image : A → Entry) {P : A → Type 0} {list : List Entry} (c : Catalog Before image P list) where
+module _ {A : Type 0} (Before : A → A → Type 0) (image : A → Entry) {P : A → Type 0} {list : List Entry}
+    (c : Catalog Before image P list) where
   catalog-found : (i : ℕ) (e : Entry) → seek list i ≡ Found e → (r : A) × P r × (e ≡ image r)
   catalog-found i e h =
       let x = in-map image (c .rows) (found-in (map image (c .rows)) i (rw (c .entries) at h)) in
@@ -93,7 +97,8 @@ module _ {A : Type 0} (Before : A → A → Type 0) (image : A → Entry) {P : A
 -- ---- the listing is a catalog
 module _ (t : List ℕ) (vars : List Slot) (clocks places : List ℕ) (n : ℕ) where
   abbrev Opens : ℕ → ℕ → ℕ → Row → Type 0
-  Opens action p k r = (opensBy t vars clocks (getD places p 0) action k ≡ true) × (r ≡ record { action = action; process = p; transition = k })
+  Opens action p k r =
+      (opensBy t vars clocks (getD places p 0) action k ≡ true) × (r ≡ record { action = action; process = p; transition = k })
 
   abbrev OfProcess : ℕ → ℕ → Row → Type 0
   OfProcess action p r = (k : ℕ) × (k < transitionCount t) × Opens action p k r
@@ -109,7 +114,8 @@ module _ (t : List ℕ) (vars : List Slot) (clocks places : List ℕ) (n : ℕ) 
 
   process-catalog : (action p : ℕ) → Lists (OfProcess action p) (processEntries t vars clocks (getD places p 0) action p)
   process-catalog action p =
-      catalog-join Before (entryFor t) (λ k. cond (opensBy t vars clocks (getD places p 0) action k) (entryOf t action p k ∷ []) []) (Opens action p) (transitionCount t)
+      catalog-join Before (entryFor t) (λ k. cond (opensBy t vars clocks (getD places p 0) action k) (entryOf t action p k ∷ []) [])
+      (Opens action p) (transitionCount t)
       (λ k l.
       catalog-if Before (entryFor t) (opensBy t vars clocks (getD places p 0) action k)
       (catalog-one Before (entryFor t) (record { action = action; process = p; transition = k })))
@@ -119,7 +125,8 @@ module _ (t : List ℕ) (vars : List Slot) (clocks places : List ℕ) (n : ℕ) 
   unfolding sharedEntries
   action-catalog action =
       catalog-if Before (entryFor t) (sharedOf t places n action)
-      (catalog-join Before (entryFor t) (λ p. processEntries t vars clocks (getD places p 0) action p) (OfProcess action) n (λ p l. process-catalog action p)
+      (catalog-join Before (entryFor t) (λ p. processEntries t vars clocks (getD places p 0) action p) (OfProcess action) n
+      (λ p l. process-catalog action p)
       (λ i j l m r s x y. rw (x .2 .1, y .2 .1) (inr (refl, inl l))))
 
   listing-catalog : actionCount t ≤ actionRoom → Lists Listed (listingOf t vars clocks places n)
@@ -135,7 +142,8 @@ module _ (t : List ℕ) (vars : List Slot) (clocks places : List ℕ) (n : ℕ) 
   of-action-is-open a r (shared, (p, process, (k, known, (opens, same)))) =
       let leaving = leaves t (getD places p 0) a k .0 (and-first _ _ opens) in
       rw same
-      (record { process = process; known = known; pre = leaving .0; by = leaving .1; shared = shared-by t places n a .0 shared; passes = and-rest _ _ opens })
+      (record { process = process; known = known; pre = leaving .0; by = leaving .1; shared = shared-by t places n a .0 shared;
+      passes = and-rest _ _ opens })
 
   listed-is-open : (r : Row) → Listed r → Open t vars clocks places n r
   listed-is-open r = ⊎-elim (λ x. of-action-is-open (x .0) r (x .2)) (of-action-is-open epsilon r)
@@ -144,7 +152,8 @@ module _ (t : List ℕ) (vars : List Slot) (clocks places : List ℕ) (n : ℕ) 
   unfolding opensBy
   open-of-action r h =
       let leaving = leaves t (getD places (r .process) 0) (r .action) (r .transition) .1 (h .pre, h .by) in
-      (shared-by t places n (r .action) .1 (h .shared), (r .process, h .process, (r .transition, h .known, (and-both leaving (h .passes), refl))))
+      (shared-by t places n (r .action) .1 (h .shared),
+      (r .process, h .process, (r .transition, h .known, (and-both leaving (h .passes), refl))))
 
   open-is-listed : Sound t → (r : Row) → Open t vars clocks places n r → Listed r
   open-is-listed s r h =
@@ -173,19 +182,23 @@ module _ (t : List ℕ) (vars : List Slot) (clocks places : List ℕ) (n : ℕ) 
       (x .0, of-action-is-open a (x .0) (x .1), ap (λ (r : Row). r .action) (x .1 .1 .2 .2 .1), x .2)
 
   -- every open row has an entry in its action's list
-  pub action-lists : (r : Row) → Open t vars clocks places n r → (i : ℕ) × (seek (sharedEntries t vars clocks places n (r .action)) i ≡ Found (entryFor t r))
+  pub action-lists : (r : Row) → Open t vars clocks places n r
+      → (i : ℕ) × (seek (sharedEntries t vars clocks places n (r .action)) i ≡ Found (entryFor t r))
   action-lists r h = catalog-seeks Before (entryFor t) (action-catalog (r .action)) r (open-of-action r h)
 
   -- every entry is of an open row
-  pub listed-passes : Sound t → (i : ℕ) (e : Entry) → seek (listingOf t vars clocks places n) i ≡ Found e → (r : Row) × Open t vars clocks places n r × (e ≡ entryFor t r)
+  pub listed-passes : Sound t → (i : ℕ) (e : Entry) → seek (listingOf t vars clocks places n) i ≡ Found e
+      → (r : Row) × Open t vars clocks places n r × (e ≡ entryFor t r)
   listed-passes s i e h = catalog-found Before (entryFor t) (listing s) i e h
 
   -- every open row has an entry
-  pub passes-listed : Sound t → (r : Row) → Open t vars clocks places n r → (i : ℕ) × (seek (listingOf t vars clocks places n) i ≡ Found (entryFor t r))
+  pub passes-listed : Sound t → (r : Row) → Open t vars clocks places n r
+      → (i : ℕ) × (seek (listingOf t vars clocks places n) i ≡ Found (entryFor t r))
   passes-listed s r h = catalog-seeks Before (entryFor t) (listing s) r h
 
   -- rows in order have entries in order
-  in-order : Sound t → (r s : Row) → Open t vars clocks places n r → Open t vars clocks places n s → Before r s → AtMost (entryFor t r) (entryFor t s)
+  in-order : Sound t → (r s : Row) → Open t vars clocks places n r → Open t vars clocks places n s → Before r s
+      → AtMost (entryFor t r) (entryFor t s)
   in-order sound r s p q (inl l) = inl l
   in-order sound r s p q (inr (a, inl l)) = inr (a, inl l)
   in-order sound r s p q (inr (a, inr (e, l))) =
@@ -193,17 +206,20 @@ module _ (t : List ℕ) (vars : List Slot) (clocks places : List ℕ) (n : ℕ) 
         a,
         inr (
           e,
-          posts-ascend (keyOf t (r .transition)) (keyOf t (s .transition)) (p .pre ∙ ap (λ (x : ℕ). getD places x 0) e ∙ sym (q .pre)) (p .by ∙ a ∙ sym (q .by))
+          posts-ascend (keyOf t (r .transition)) (keyOf t (s .transition)) (p .pre ∙ ap (λ (x : ℕ). getD places x 0) e ∙ sym (q .pre))
+          (p .by ∙ a ∙ sym (q .by))
               (keys-ascend t sound (r .transition) (s .transition) l (q .known)),
         ),
       )
 
   -- entries ascend by action, process and post
-  pub listed-ascend : Sound t → (i j : ℕ) (d e : Entry) → i < j → seek (listingOf t vars clocks places n) i ≡ Found d → seek (listingOf t vars clocks places n) j ≡ Found e → AtMost d e
+  pub listed-ascend : Sound t → (i j : ℕ) (d e : Entry) → i < j → seek (listingOf t vars clocks places n) i ≡ Found d
+      → seek (listingOf t vars clocks places n) j ≡ Found e → AtMost d e
   listed-ascend s i j d e l h k =
       let c = listing s in
       found-ascending AtMost (map (entryFor t) (c .rows))
-      (ascending-map Before AtMost (entryFor t) (c .rows) (λ r q m w. in-order s r q (c .only r m) (c .only q w)) (c .ascending)) i j l (rw (c .entries) at h) (rw (c .entries) at k)
+      (ascending-map Before AtMost (entryFor t) (c .rows) (λ r q m w. in-order s r q (c .only r m) (c .only q w)) (c .ascending)) i j l
+      (rw (c .entries) at h) (rw (c .entries) at k)
 
   -- past the end it says so, and how far
   pub past-the-end : (i m : ℕ) → (seek (listingOf t vars clocks places n) i ≡ Left m) ↔ (i ≡ length (listingOf t vars clocks places n) + m)
@@ -217,16 +233,21 @@ module _ (t : List ℕ) (vars : List Slot) (clocks places : List ℕ) where
   unfolding readyOf processReady leadsOf leavesBy
   open-ready r h known plain = all-from _ 1 ready
     where
-      ready : (p : ℕ) → p < 1 → processReady t vars clocks (clocksAfter t (r .action) clocks) places (r .action) (postOf (keyOf t (r .transition)) ∷ []) p ≡ true
+      ready : (p : ℕ) → p < 1
+          → processReady t vars clocks (clocksAfter t (r .action) clocks) places (r .action) (postOf (keyOf t (r .transition)) ∷ []) p
+          ≡ true
       ready zero l =
           let first : r .process ≡ 0 = omega arith in
           let leaves = and-both (eq-eqb _ _ (rw first at (h .pre))) (eq-eqb _ _ (h .by)) in
           any-found _ (transitionCount t) (r .transition) (h .known)
-          (and-both leaves (and-both (eq-eqb (postOf (keyOf t (r .transition))) _ refl) (rw (clocks-by-plain t clocks (r .action) known plain) at (h .passes))))
+          (and-both leaves
+          (and-both (eq-eqb (postOf (keyOf t (r .transition))) _ refl)
+          (rw (clocks-by-plain t clocks (r .action) known plain) at (h .passes))))
       ready (suc p) l = absurd (omega arith)
 
   pub plain-ready :
-      Sound t → (i : ℕ) (e : Entry) → seek (listingOf t vars clocks places 1) i ≡ Found e → e .action .0 < actionCount t → actionKind t (e .action .0) ≡ plainKind →
+      Sound t → (i : ℕ) (e : Entry) → seek (listingOf t vars clocks places 1) i ≡ Found e → e .action .0 < actionCount t → actionKind t
+      (e .action .0) ≡ plainKind →
       readyOf t vars clocks (clocksAfter t (e .action .0) clocks) places 1 (e .action .0) (e .post ∷ []) ≡ true
   plain-ready s i e h known plain =
       let x = listed-passes t vars clocks places 1 s i e h in

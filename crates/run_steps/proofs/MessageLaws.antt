@@ -1,7 +1,7 @@
 -- Laws of what a send says, and of what a receive takes: the variables that are as before, their kinds, and which value stands.
 use Prim.Native.Nat.{ℕ, zero, suc, _+_, _<_, _≤_}
 use mathlib.Core.Path.{_≡_, refl, sym, ap, _∙_}
-use mathlib.Core.Bool.{true, false}
+use mathlib.Core.Bool.{Bool, true, false}
 use mathlib.Core.List.{List}
 use mathlib.Core.Logic.{⊎-elim}
 use native.Mathlib.Nat.{le-of-suc-le-suc, not-suc-le-zero, eq-or-lt-of-le}
@@ -11,6 +11,7 @@ use lib.Dec.{eqb}
 use lib.ListN.{length, getD, length-set}
 use lib.Seq.{getD-set-same, getD-set-other}
 use Rattle.laws.proofs.BelowLaws.{and-rest, all-at}
+use Rattle.laws.proofs.Tests.{never}
 use Rattle.grammar.specs.Values.{kindOf, kindWord}
 use Rattle.grammar.specs.Evaluation.{blank, evaluationOf}
 use Rattle.grammar.specs.declared.values.Slot.{Slot}
@@ -23,7 +24,8 @@ use Rattle.run_steps.specs.declared.inner.messages.Speech.{Speech}
 use Rattle.run_steps.proofs.StepLaws.{set-keeps}
 
 -- ---- a send
-next-runs : (vars : List Slot) (s : Speech) (e : ℕ) (items : List ℕ) → s .fits ≡ true
+-- an expression is evaluated, or one before it had no value
+pub next-runs : (vars : List Slot) (s : Speech) (e : ℕ) (items : List ℕ) → s .fits ≡ true
     → spokenNext vars s e items ≡ voiced s e (evaluationOf vars (s .word) items .value) (evaluationOf vars (s .word) items .rest)
 unfolding spokenNext
 next-runs vars s e items h = rw h
@@ -44,6 +46,14 @@ module _ (t : List ℕ) (a : ℕ) (vars : List Slot) (s : Speech) where
       let q = spoken-stop n i (le-of-suc-le-suc m) h in
       next-stops vars (spokenBelow t a vars s n) n (effectItems t a n) (ap (λ (r : Speech). r .fits) q ∙ h) ∙ q)
       (eq-or-lt-of-le l)
+
+  -- where each has had a value, so has each before
+  pub spoken-fit : (n i : ℕ) → i ≤ n → spokenBelow t a vars s n .fits ≡ true → spokenBelow t a vars s i .fits ≡ true
+  spoken-fit n i l h = by (spokenBelow t a vars s i .fits) refl
+    where
+      by : (b : Bool) → spokenBelow t a vars s i .fits ≡ b → spokenBelow t a vars s i .fits ≡ true
+      by true q = q
+      by false q = never (sym q ∙ sym (ap (λ (r : Speech). r .fits) (spoken-stop n i l q)) ∙ h)
 
   -- while each has a value, one more is evaluated: y is what its evaluation gave, z the value or none
   pub spoken-turn : (n : ℕ) {z : Evaluated} (y : Evaluation) → spokenBelow t a vars s n .fits ≡ true
@@ -86,12 +96,14 @@ module _ (t : List ℕ) (a : ℕ) (m : Message) (vars : List Slot) where
       (eq-or-lt-of-le (le-of-suc-le-suc l))
 
   -- a variable of its kind is so once values of their variables' kinds are taken
-  pub taken-kinds : (n v : ℕ) → ((e : ℕ) → e < n → valueFits t a m e ≡ true) → eqb (kindWord (kindOf (getD vars v blank .value))) (kindAt t v) ≡ true
+  pub taken-kinds : (n v : ℕ) → ((e : ℕ) → e < n → valueFits t a m e ≡ true)
+      → eqb (kindWord (kindOf (getD vars v blank .value))) (kindAt t v) ≡ true
       → eqb (kindWord (kindOf (getD (takenBelow t a m vars n) v blank .value))) (kindAt t v) ≡ true
   unfolding takenBelow valueFits
   taken-kinds zero v f h = h
   taken-kinds (suc n) v f h =
-      set-keeps (λ (s : Slot). eqb (kindWord (kindOf (s .value))) (kindAt t v) ≡ true) blank (takenBelow t a m vars n) (effectVar t a n) (getD (m .values) n blank) v
+      set-keeps (λ (s : Slot). eqb (kindWord (kindOf (s .value))) (kindAt t v) ≡ true) blank (takenBelow t a m vars n) (effectVar t a n)
+      (getD (m .values) n blank) v
       (λ e. rw e at (f n (omega arith))) (taken-kinds n v (λ e l. f e (omega arith)) h)
 
   -- and so once a message that fits is

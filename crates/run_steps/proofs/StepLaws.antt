@@ -151,7 +151,7 @@ unfolding effectNext
 next-stops s v items h = rw h
 
 -- what one effect and what none keeps is kept
-next-keeps : (P : Effected → Type 0) (s : Effected) (v : ℕ) (items : List ℕ)
+pub next-keeps : (P : Effected → Type 0) (s : Effected) (v : ℕ) (items : List ℕ)
     → P (assigned s v (evaluationOf (s .vars) (s .word) items .value) (evaluationOf (s .vars) (s .word) items .rest)) → P s → P (effectNext s v items)
 unfolding effectNext
 next-keeps P s v items h k = by (s .fits)
@@ -159,6 +159,14 @@ next-keeps P s v items h k = by (s .fits)
     by : (b : Bool) → P (cond b (assigned s v (evaluationOf (s .vars) (s .word) items .value) (evaluationOf (s .vars) (s .word) items .rest)) s)
     by true = h
     by false = k
+
+-- one effect keeps every other variable, whether it is run or not
+next-other : (s : Effected) (v : ℕ) (items : List ℕ) (w : ℕ) → (v ≡ w → ⊥)
+    → getD (effectNext s v items .vars) w blank ≡ getD (s .vars) w blank
+next-other s v items w h =
+    let y = evaluationOf (s .vars) (s .word) items in
+    next-keeps (λ (r : Effected). getD (r .vars) w blank ≡ getD (s .vars) w blank) s v items
+    (assigned-other s v (y .value) (y .rest) w h) refl
 
 module _ (t : List ℕ) (a : ℕ) (s : Effected) where
   abbrev turn : ℕ → Evaluation
@@ -172,15 +180,23 @@ module _ (t : List ℕ) (a : ℕ) (s : Effected) where
       next-keeps (λ (r : Effected). length (r .vars) ≡ length (s .vars)) q (effectVar t a n) (effectItems t a n)
       (assigned-length q (effectVar t a n) (turn n .value) (turn n .rest) ∙ effects-length n) (effects-length n)
 
+  -- a variable that no effect from one on assigns is as the effects before that left it
+  pub effects-since : (i n v : ℕ) → i ≤ n → ((e : ℕ) → i ≤ e → e < n → effectVar t a e ≡ v → ⊥)
+      → getD (effectsBelow t a s n .vars) v blank ≡ getD (effectsBelow t a s i .vars) v blank
+  unfolding effectsBelow
+  effects-since i zero v l h = let e : 0 ≡ i = omega arith in ap (λ (m : ℕ). getD (effectsBelow t a s m .vars) v blank) e
+  effects-since i (suc n) v l h =
+      ⊎-elim
+      (λ (e : i ≡ suc n). ap (λ (m : ℕ). getD (effectsBelow t a s m .vars) v blank) (sym e))
+      (λ (m : i < suc n).
+      next-other (effectsBelow t a s n) (effectVar t a n) (effectItems t a n) v (h n (omega arith) (omega arith))
+      ∙ effects-since i n v (le-of-suc-le-suc m) (λ e k j. h e k (omega arith)))
+      (eq-or-lt-of-le l)
+
   -- a variable that no effect assigns is as before
   pub effects-other : (n v : ℕ) → ((e : ℕ) → e < n → effectVar t a e ≡ v → ⊥) → getD (effectsBelow t a s n .vars) v blank ≡ getD (s .vars) v blank
   unfolding effectsBelow
-  effects-other zero v h = refl
-  effects-other (suc n) v h =
-      let q = effectsBelow t a s n in
-      let k = effects-other n v (λ e l. h e (omega arith)) in
-      next-keeps (λ (r : Effected). getD (r .vars) v blank ≡ getD (s .vars) v blank) q (effectVar t a n) (effectItems t a n)
-      (assigned-other q (effectVar t a n) (turn n .value) (turn n .rest) v (h n (omega arith)) ∙ k) k
+  effects-other n v h = effects-since 0 n v (omega arith) (λ e k l. h e l)
 
   -- once an effect has no value, nothing after it is run
   pub effects-stop : (n i : ℕ) → i ≤ n → effectsBelow t a s i .fits ≡ false → effectsBelow t a s n ≡ effectsBelow t a s i
@@ -193,6 +209,14 @@ module _ (t : List ℕ) (a : ℕ) (s : Effected) where
       let q = effects-stop n i (le-of-suc-le-suc m) h in
       next-stops (effectsBelow t a s n) (effectVar t a n) (effectItems t a n) (ap (λ (r : Effected). r .fits) q ∙ h) ∙ q)
       (eq-or-lt-of-le l)
+
+  -- where each has had a value, so has each before
+  pub effects-fit : (n i : ℕ) → i ≤ n → effectsBelow t a s n .fits ≡ true → effectsBelow t a s i .fits ≡ true
+  effects-fit n i l h = by (effectsBelow t a s i .fits) refl
+    where
+      by : (b : Bool) → effectsBelow t a s i .fits ≡ b → effectsBelow t a s i .fits ≡ true
+      by true q = q
+      by false q = never (sym q ∙ sym (ap (λ (r : Effected). r .fits) (effects-stop n i l q)) ∙ h)
 
   -- while each has a value, one more is run: y is what its evaluation gave, z the value or none
   pub effects-turn : (n : ℕ) {z : Evaluated} (y : Evaluation) → effectsBelow t a s n .fits ≡ true

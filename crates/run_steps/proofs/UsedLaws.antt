@@ -26,15 +26,17 @@ module _ (t : List ℕ) (clocks : List ℕ) (xs ys : List ℕ) (n : ℕ) (same :
   shared-same : (action : ℕ) → sharedOf t xs n action ≡ sharedOf t ys n action
   unfolding sharedOf placeHas
   shared-same action =
-      all-same (placeHas t xs action) (placeHas t ys action) n (λ p l. ap (λ (x : ℕ). anyBelow (transitionCount t) (leavesBy t x action)) (same p l))
+      all-same (placeHas t xs action) (placeHas t ys action) n
+      (λ p l. ap (λ (x : ℕ). anyBelow (transitionCount t) (leavesBy t x action)) (same p l))
 
-  waiting-same : waitingOf t clocks xs n ≡ waitingOf t clocks ys n
+  pub waiting-same : waitingOf t clocks xs n ≡ waitingOf t clocks ys n
   unfolding waitingOf processWaits awaitedOf
   waiting-same =
       any-same (processWaits t clocks xs n) (processWaits t clocks ys n) n
-      (λ p l. any-same (awaitedOf t clocks xs n p) (awaitedOf t clocks ys n p) (transitionCount t) (λ k m. rw (same p l, shared-same (actionOf (keyOf t k)))))
+      (λ p l. any-same (awaitedOf t clocks xs n p) (awaitedOf t clocks ys n p) (transitionCount t)
+      (λ k m. rw (same p l, shared-same (actionOf (keyOf t k)))))
 
-  shared-entries-same : (vars : List Slot) (action : ℕ) → sharedEntries t vars clocks xs n action ≡ sharedEntries t vars clocks ys n action
+  pub shared-entries-same : (vars : List Slot) (action : ℕ) → sharedEntries t vars clocks xs n action ≡ sharedEntries t vars clocks ys n action
   unfolding sharedEntries
   shared-entries-same vars action =
       rw (shared-same action)
@@ -42,7 +44,7 @@ module _ (t : List ℕ) (clocks : List ℕ) (xs ys : List ℕ) (n : ℕ) (same :
       (join-same (λ p. processEntries t vars clocks (getD xs p 0) action p) (λ p. processEntries t vars clocks (getD ys p 0) action p) n
       (λ p l. ap (λ (x : ℕ). processEntries t vars clocks x action p) (same p l))))
 
-  listing-same : (vars : List Slot) → listingOf t vars clocks xs n ≡ listingOf t vars clocks ys n
+  pub listing-same : (vars : List Slot) → listingOf t vars clocks xs n ≡ listingOf t vars clocks ys n
   listing-same vars =
       let shared = shared-entries-same vars in
       cc (join-same (sharedEntries t vars clocks xs n) (sharedEntries t vars clocks ys n) (actionCount t) (λ a l. shared a), shared epsilon)
@@ -58,7 +60,8 @@ module _ (t clocks places : List ℕ) (n : ℕ) where
   pub waiting-used : waitingOf t clocks (take n places) n ≡ waitingOf t clocks places n
   waiting-used = waiting-same t clocks (take n places) places n (used-at places n)
 
-  pub shared-entries-used : (vars : List Slot) (action : ℕ) → sharedEntries t vars clocks (take n places) n action ≡ sharedEntries t vars clocks places n action
+  pub shared-entries-used : (vars : List Slot) (action : ℕ)
+      → sharedEntries t vars clocks (take n places) n action ≡ sharedEntries t vars clocks places n action
   shared-entries-used = shared-entries-same t clocks (take n places) places n (used-at places n)
 
   pub listing-used : (vars : List Slot) → listingOf t vars clocks (take n places) n ≡ listingOf t vars clocks places n

@@ -29,10 +29,10 @@ module _ (ws : List ℕ) (n v : ℕ) (x : Val) (size : length ws ≡ 2 * variabl
   long : length (set ws (2 * v) (kindIn x)) ≡ length ws
   long = length-set ws (2 * v) (kindIn x)
 
-  value-here : getD (slotsOf written) v blank ≡ record { value = x }
+  pub value-here : getD (slotsOf written) v blank ≡ record { value = x }
   value-here = ap (λ (ss : List Slot). getD ss v blank) slots-written ∙ getD-set-same (slotsOf ws) v (record { value = x }) blank (omega (arith, slots-length ws variableRoom size))
 
-  value-there : (u : ℕ) → (u ≡ v → ⊥) → getD (slotsOf written) u blank ≡ getD (slotsOf ws) u blank
+  pub value-there : (u : ℕ) → (u ≡ v → ⊥) → getD (slotsOf written) u blank ≡ getD (slotsOf ws) u blank
   value-there u d = ap (λ (ss : List Slot). getD ss u blank) slots-written ∙ getD-set-other (slotsOf ws) v u (record { value = x }) blank d
 
   word-there : (i : ℕ) → (i ≡ 2 * v → ⊥) → (i ≡ 2 * v + 1 → ⊥) → getD written i 0 ≡ getD ws i 0
@@ -47,8 +47,11 @@ module _ (ws : List ℕ) (n v : ℕ) (x : Val) (size : length ws ≡ 2 * variabl
   payload-here : getD written (2 * v + 1) 0 ≡ payloadIn x
   payload-here = getD-set-same (set ws (2 * v) (kindIn x)) (2 * v + 1) (payloadIn x) 0 (omega (arith, long))
 
-  put-canonical : VarWords ws n → VarWords written n
-  put-canonical w =
+  -- written, every pair is that of its value, if the others were
+  put-fills :
+      ((u : ℕ) → u < n → (u ≡ v → ⊥) → (getD ws (2 * u) 0 ≡ kindIn (getD (slotsOf ws) u blank .value)) × (getD ws (2 * u + 1) 0 ≡ payloadIn (getD (slotsOf ws) u blank .value)))
+      → VarWords written n
+  put-fills w =
       record {
         words = length-set (set ws (2 * v) (kindIn x)) (2 * v + 1) (payloadIn x) ∙ long ∙ size;
         kind = λ u l. kind u l (ℕ-discrete u v);
@@ -57,11 +60,20 @@ module _ (ws : List ℕ) (n v : ℕ) (x : Val) (size : length ws ≡ 2 * variabl
     where
       kind : (u : ℕ) → u < n → Dec (u ≡ v) → getD written (2 * u) 0 ≡ kindIn (getD (slotsOf written) u blank .value)
       kind u l (yes e) = rw (e, value-here) kind-here
-      kind u l (no d) = word-there (2 * u) (λ e. d (omega arith)) (λ e. omega arith) ∙ w .kind u l ∙ ap (λ (s : Slot). kindIn (s .value)) (sym (value-there u d))
+      kind u l (no d) =
+          word-there (2 * u) (λ e. d (omega arith)) (λ e. omega arith) ∙ w u l d .0 ∙ ap (λ (s : Slot). kindIn (s .value)) (sym (value-there u d))
 
       payload : (u : ℕ) → u < n → Dec (u ≡ v) → getD written (2 * u + 1) 0 ≡ payloadIn (getD (slotsOf written) u blank .value)
       payload u l (yes e) = rw (e, value-here) payload-here
-      payload u l (no d) = word-there (2 * u + 1) (λ e. omega arith) (λ e. d (omega arith)) ∙ w .payload u l ∙ ap (λ (s : Slot). payloadIn (s .value)) (sym (value-there u d))
+      payload u l (no d) =
+          word-there (2 * u + 1) (λ e. omega arith) (λ e. d (omega arith)) ∙ w u l d .1 ∙ ap (λ (s : Slot). payloadIn (s .value)) (sym (value-there u d))
+
+  put-canonical : VarWords ws n → VarWords written n
+  put-canonical w = put-fills (λ u l d. (w .kind u l, w .payload u l))
+
+  -- one more pair
+  pub put-extends : n ≡ v + 1 → VarWords ws v → VarWords written n
+  put-extends e w = put-fills (λ u l d. let m : u < v = omega (arith, d) in (w .kind u m, w .payload u m))
 
   put-frame : drop (2 * n) written ≡ drop (2 * n) ws
   put-frame =

@@ -43,7 +43,8 @@ entryOf t action p k = record { action = record { 0 = action }; process = p; pos
 
 -- process p at a location: an entry for each transition that passes, so that a post may stand there twice
 abbrev pub processEntries : List ℕ → List Slot → List ℕ → ℕ → ℕ → ℕ → List Entry
-processEntries t vars clocks pre action p = joinBelow (transitionCount t) (λ k. cond (opensBy t vars clocks pre action k) (entryOf t action p k ∷ []) [])
+processEntries t vars clocks pre action p =
+    joinBelow (transitionCount t) (λ k. cond (opensBy t vars clocks pre action k) (entryOf t action p k ∷ []) [])
 
 -- the first n processes, each at its place
 abbrev pub actionEntries : List ℕ → List Slot → List ℕ → List ℕ → ℕ → ℕ → List Entry

@@ -13,7 +13,9 @@ use Rattle.grammar.specs.declared.values.Slot.{Slot}
 use Rattle.grammar.specs.declared.evaluation.Evaluated.{Evaluated}
 use Rattle.grammar.specs.declared.evaluation.Evaluated.the-variants.{Known, NoValue}
 use Rattle.graph_tables.specs.Sizes.{lastTime}
-use Rattle.graph_tables.specs.Words.{locationCount, actionCount, transitionCount, invariantCount, actionKind, resetCount, resetAt, effectCount, effectVar, effectItems, keyOf, guardLength, guardItems, limitCount, preOf, actionOf, postOf, invariantGroup, clockOf, limitRange}
+use Rattle.graph_tables.specs.Words.{locationCount, actionCount, transitionCount, invariantCount, actionKind, resetCount, resetAt}
+use Rattle.graph_tables.specs.Words.{effectCount, effectVar, effectItems, keyOf, guardLength, guardItems, limitCount, preOf, actionOf}
+use Rattle.graph_tables.specs.Words.{postOf, invariantGroup, clockOf, limitRange}
 
 -- ---- limits, on the clocks that are given
 unfoldable pub limitHolds : List ℕ → ℕ → List ℕ → ℕ → Bool

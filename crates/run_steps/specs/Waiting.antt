@@ -6,7 +6,8 @@ use lib.Dec.{eqb}
 use lib.ListN.{length, getD}
 use Rattle.laws.specs.Below.{_and_, allBelow, anyBelow}
 use Rattle.time.specs.Time.{lowerMet, upperMet}
-use Rattle.graph_tables.specs.Words.{locationCount, transitionCount, invariantCount, keyOf, limitCount, preOf, actionOf, postOf, clockOf, limitRange, invariantGroup}
+use Rattle.graph_tables.specs.Words.{locationCount, transitionCount, invariantCount, keyOf, limitCount, preOf, actionOf, postOf, clockOf}
+use Rattle.graph_tables.specs.Words.{limitRange, invariantGroup}
 use Rattle.run_steps.specs.Steps.{leavesBy}
 
 -- each process stands at a known location

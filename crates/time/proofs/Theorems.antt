@@ -27,7 +27,8 @@ earlier Unbounded t u l h = refl
 -- A range that holds at two times holds at every time between them.
 pub between : (r : TimeRange) (from t to : ℕ) → from ≤ t → t ≤ to → inRange r from ≡ true → inRange r to ≡ true → inRange r t ≡ true
 between r from t to l m h k =
-    both (later (r .lower) from t l (first (lowerMet (r .lower) from) (upperMet (r .upper) from) h)) (earlier (r .upper) t to m (second (lowerMet (r .lower) to) (upperMet (r .upper) to) k))
+    both (later (r .lower) from t l (first (lowerMet (r .lower) from) (upperMet (r .upper) from) h))
+    (earlier (r .upper) t to m (second (lowerMet (r .lower) to) (upperMet (r .upper) to) k))
 
 -- a bound that a shift does not stop
 abbrev pub Below : Bound → ℕ → Type 0

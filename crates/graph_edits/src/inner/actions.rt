@@ -10,7 +10,8 @@ ghost use Prim.Native.Nat.{ℕ, _≤_, _<_};
 ghost use lib.ListN.{length};
 ghost use Rattle.graph_tables.specs.Sizes.{actionRoom, effectRoom, resetRoom, messageRoom, itemRoom};
 ghost use Rattle.graph_tables.specs.Words.{Words, actionCount, resetCount, effectCount};
-ghost use Rattle.graph_edits.specs.Edits.{withAction, resetPlace, withReset, withExpression, withEffect, chosen, withExpressions, withSend, withTargets, withReceive};
+ghost use Rattle.graph_edits.specs.Edits.{withAction, resetPlace, withReset, withExpression, withEffect, chosen, withExpressions};
+ghost use Rattle.graph_edits.specs.Edits.{withSend, withTargets, withReceive};
 
 // An action of this kind, with so many effects and no resets.
 pub fn put_action(t: &mut [u64], kind: u64, effects: usize)
@@ -96,8 +97,14 @@ fn put_expressions<'a>(
     z: &'a [u64],
     count: usize,
 )
-    requires { ⌜ Words (now t) × (a < actionRoom) × (count ≤ messageRoom) × ((i : ℕ) → i < count → length (chosen (now w) (now x) (now y) (now z) i) ≤ itemRoom) ⌝ }
-    ensures { λ _. ⌜ now (t .exit) ≡ withExpressions (now (t .entry)) a (chosen (now (w .entry)) (now (x .entry)) (now (y .entry)) (now (z .entry))) count ⌝ }
+    requires {
+        ⌜ Words (now t) × (a < actionRoom) × (count ≤ messageRoom)
+        × ((i : ℕ) → i < count → length (chosen (now w) (now x) (now y) (now z) i) ≤ itemRoom) ⌝
+    }
+    ensures {
+        λ _. ⌜ now (t .exit)
+        ≡ withExpressions (now (t .entry)) a (chosen (now (w .entry)) (now (x .entry)) (now (y .entry)) (now (z .entry))) count ⌝
+    }
 {
     for e in 0..count {
         put_expression(t, a, e, choose(w, x, y, z, e));
@@ -113,8 +120,14 @@ pub fn put_send<'a>(
     z: &'a [u64],
     count: usize,
 )
-    requires { ⌜ Words (now t) × (actionCount (now t) < actionRoom) × (count ≤ messageRoom) × ((i : ℕ) → i < count → length (chosen (now w) (now x) (now y) (now z) i) ≤ itemRoom) ⌝ }
-    ensures { λ _. ⌜ now (t .exit) ≡ withSend (now (t .entry)) (chosen (now (w .entry)) (now (x .entry)) (now (y .entry)) (now (z .entry))) count ⌝ }
+    requires {
+        ⌜ Words (now t) × (actionCount (now t) < actionRoom) × (count ≤ messageRoom)
+        × ((i : ℕ) → i < count → length (chosen (now w) (now x) (now y) (now z) i) ≤ itemRoom) ⌝
+    }
+    ensures {
+        λ _. ⌜ now (t .exit)
+        ≡ withSend (now (t .entry)) (chosen (now (w .entry)) (now (x .entry)) (now (y .entry)) (now (z .entry))) count ⌝
+    }
 {
     let n = inner::action_count(t);
     put_expressions(t, n, w, x, y, z, count);

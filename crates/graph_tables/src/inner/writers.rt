@@ -3,8 +3,12 @@ use crate::layout;
 ghost use mathlib.Core.Path.{_≡_};
 ghost use Prim.Native.Nat.{_<_};
 ghost use lib.ListN.{set};
-ghost use Rattle.graph_tables.specs.Sizes.{variableRoom, processRoom, locationRoom, actionRoom, transitionRoom, groupRoom, limitRoom, resetRoom, effectRoom};
-ghost use Rattle.graph_tables.specs.Layout.{variablesCell, clocksCell, locationsCell, actionsCell, processesCell, transitionsCell, kindCell, valueCell, placeCell, invariantsCell, actionRow, resetsCell, effectsCell, resetCell, varCell, lengthCell, transitionRow, guardCell, limitsCell, limitRow, lowerCell, upperCell};
+ghost use Rattle.graph_tables.specs.Sizes.{variableRoom, processRoom, locationRoom, actionRoom, transitionRoom, groupRoom, limitRoom};
+ghost use Rattle.graph_tables.specs.Sizes.{resetRoom, effectRoom};
+ghost use Rattle.graph_tables.specs.Layout.{variablesCell, clocksCell, locationsCell, actionsCell, processesCell, transitionsCell};
+ghost use Rattle.graph_tables.specs.Layout.{kindCell, valueCell, placeCell, invariantsCell, actionRow, resetsCell, effectsCell};
+ghost use Rattle.graph_tables.specs.Layout.{resetCell, varCell, lengthCell, transitionRow, guardCell, limitsCell, limitRow};
+ghost use Rattle.graph_tables.specs.Layout.{lowerCell, upperCell};
 ghost use Rattle.graph_tables.specs.Words.{Words};
 
 pub fn set_variable_count(t: &mut [u64], n: usize)

@@ -1,86 +1,98 @@
-// A wait of a run on a table that it fits.
-use crate::answers::Waited;
-use crate::record::ProgramGraphRun;
-use graph_steps::inner::waiting;
-use graph_steps::inner::waits;
+// A wait of a run in words, on a table that it fits: all clocks fit, then all invariants hold. A refusal leaves every word.
+use crate::inner::steps;
 use graph_tables::answers::Done;
 use graph_tables::refusals::Refusal;
+use graph_tables::runs;
+use graph_tables::sizes;
+use run_steps::inner::copies;
+use run_steps::inner::waiting;
+use run_steps::inner::waits;
 ghost use mathlib.Core.Path.{_≡_};
 ghost use mathlib.Core.Bool.{true};
-ghost use Rattle.laws.specs.Below.{_and_, allBelow};
-ghost use Rattle.graph_tables.specs.Refusals.{numberOf};
+ghost use lib.ListN.{length};
+ghost use Rattle.laws.specs.Below.{allBelow};
+ghost use Rattle.graph_tables.specs.Sizes.{clockRoom};
+ghost use Rattle.graph_tables.specs.RunWords.{runProcesses, runClocks, placesIn, clocksIn};
 ghost use Rattle.graph_tables.specs.Sound.{Sound};
-ghost use Rattle.graph_steps.specs.Steps.{placeHolds};
-ghost use Rattle.graph_steps.specs.Waiting.{waitingOf};
-ghost use Rattle.program_graph.specs.Running.{refusedWait, runFormed, waitFits, waitHolds, waitedOf};
+ghost use Rattle.run_steps.specs.Steps.{shiftedBelow, placeHolds};
+ghost use Rattle.program_graph.specs.Running.{waitFits, waitHolds, waitOpen, waitsOn, waitedOf};
+ghost use Rattle.program_graph.specs.Inner.{runAt, RunOf, DidWait};
 
-fn wait_holds(run: ProgramGraphRun, t: &[u64], times: [u32; 8]) -> bool
-    requires { ⌜ Sound (now t) × (runFormed (now t) run ≡ true) ⌝ }
-    ensures { λ r. ⌜ r ≡ allBelow (run .processes) (placeHolds (now (t .entry)) (run .places) times) ⌝ }
+// No clock passes the last time.
+pub fn wait_fits(t: &[u64], r: &[u64], delta: u32) -> bool
+    requires { ⌜ Sound (now t) × RunOf (now t) (now r) ⌝ }
+    ensures { λ x. ⌜ x ≡ waitFits (runAt (now (r .entry))) delta ⌝ }
 {
-    let places = run.places;
-    waits::places_hold(t, places, run.processes, times)
+    waits::clocks_fit(&r[runs::CLOCKS..runs::WORDS], r[runs::TIMERS] as usize, delta)
 }
 
-pub fn refused(run: ProgramGraphRun, r: Refusal) -> Waited
-    ensures { λ x. ⌜ x ≡ refusedWait (numberOf r) run ⌝ }
+// The clocks after the wait, in words of their own.
+fn times_later(t: &[u64], r: &[u64], delta: u32, times: &mut [u64])
+    requires { ⌜ Sound (now t) × RunOf (now t) (now r) × (length (now times) ≡ clockRoom) × (waitFits (runAt (now r)) delta ≡ true) ⌝ }
+    ensures { λ _. ⌜ now (times .exit) ≡ shiftedBelow (clocksIn (now (r .entry))) delta (runClocks (now (r .entry))) ⌝ }
 {
-    Waited {
-        answer: Done::Refused(r),
-        run,
-    }
+    copies::copy(times, &r[runs::CLOCKS..runs::WORDS]);
+    waits::shift(times, r[runs::TIMERS] as usize, delta)
+}
+
+// The invariants at the place of every process.
+fn places_hold(t: &[u64], r: &[u64], times: &[u64]) -> bool
+    requires { ⌜ Sound (now t) × RunOf (now t) (now r) × (length (now times) ≡ clockRoom) ⌝ }
+    ensures { λ x. ⌜ x ≡ allBelow (runProcesses (now (r .entry))) (placeHolds (now (t .entry)) (placesIn (now (r .entry))) (now (times .entry))) ⌝ }
+{
+    let n = r[runs::PROCESSES] as usize;
+    waits::places_hold(t, &r[runs::PLACES..runs::PLACES + n], times)
+}
+
+// Every invariant holds at the end of a wait whose clocks fit.
+pub fn wait_holds(t: &[u64], r: &[u64], delta: u32) -> bool
+    requires { ⌜ Sound (now t) × RunOf (now t) (now r) × (waitFits (runAt (now r)) delta ≡ true) ⌝ }
+    ensures { λ x. ⌜ x ≡ waitHolds (now (t .entry)) (runAt (now (r .entry))) delta ⌝ }
+{
+    let mut times = [0; sizes::CLOCKS];
+    times_later(t, r, delta, &mut times);
+    places_hold(t, r, &times)
 }
 
 // A wait on a table and a run that are known to fit.
-pub fn wait_on(run: ProgramGraphRun, t: &[u64], delta: u32) -> Waited
-    requires { ⌜ Sound (now t) × (runFormed (now t) run ≡ true) ⌝ }
-    ensures { λ r. ⌜ r ≡ waitedOf (now (t .entry)) run delta ⌝ }
+pub fn wait_on(t: &[u64], r: &mut [u64], delta: u32) -> Done
+    requires { ⌜ Sound (now t) × RunOf (now t) (now r) ⌝ }
+    ensures { λ x. ⌜ DidWait (now (t .entry)) (now (r .entry)) x (now (r .exit)) (waitedOf (now (t .entry)) (runAt (now (r .entry))) delta) ⌝ }
 {
-    let before = run.times;
-    let clocks = run.clocks;
-    if !waits::clocks_fit(before, clocks, delta) {
-        return refused(run, Refusal::Overflow);
+    if !wait_fits(t, r, delta) {
+        return Done::Refused(Refusal::Overflow);
     }
-    let times = waits::shifted(before, clocks, delta);
-    if !wait_holds(run, t, times) {
-        return refused(run, Refusal::Invariant);
+    let mut times = [0; sizes::CLOCKS];
+    times_later(t, r, delta, &mut times);
+    if !places_hold(t, r, &times) {
+        return Done::Refused(Refusal::Invariant);
     }
-    let places = run.places;
-    let vars = run.vars;
-    Waited {
-        answer: Done::Accepted,
-        run: ProgramGraphRun {
-            places,
-            vars,
-            times,
-            processes: run.processes,
-            variables: run.variables,
-            clocks,
-        },
-    }
+    steps::set_times(r, &times);
+    Done::Accepted
 }
 
-pub fn can_wait_on(run: ProgramGraphRun, t: &[u64], delta: u32) -> bool
-    requires { ⌜ Sound (now t) × (runFormed (now t) run ≡ true) ⌝ }
-    ensures { λ r. ⌜ r ≡ (waitFits run delta and waitHolds (now (t .entry)) run delta) ⌝ }
+pub fn can_wait_on(t: &[u64], r: &[u64], delta: u32) -> bool
+    requires { ⌜ Sound (now t) × RunOf (now t) (now r) ⌝ }
+    ensures { λ x. ⌜ x ≡ waitOpen (now (t .entry)) (runAt (now (r .entry))) delta ⌝ }
 {
-    let before = run.times;
-    let n = run.clocks;
-    if !waits::clocks_fit(before, n, delta) {
+    if !wait_fits(t, r, delta) {
         return false;
     }
-    wait_holds(run, t, waits::shifted(before, n, delta))
+    wait_holds(t, r, delta)
 }
 
 // Whether some transition will be open later.
-pub fn is_waiting_on(run: ProgramGraphRun, t: &[u64]) -> bool
-    requires { ⌜ Sound (now t) × (runFormed (now t) run ≡ true) ⌝ }
-    ensures { λ r. ⌜ r ≡ ((waitFits run 1 and waitHolds (now (t .entry)) run 1) and waitingOf (now (t .entry)) (run .times) (run .places) (run .processes)) ⌝ }
+pub fn is_waiting_on(t: &[u64], r: &[u64]) -> bool
+    requires { ⌜ Sound (now t) × RunOf (now t) (now r) ⌝ }
+    ensures { λ x. ⌜ x ≡ waitsOn (now (t .entry)) (runAt (now (r .entry))) ⌝ }
 {
-    if !can_wait_on(run, t, 1) {
+    if !can_wait_on(t, r, 1) {
         return false;
     }
-    let times = run.times;
-    let places = run.places;
-    waiting::waiting(t, times, places, run.processes)
+    let n = r[runs::PROCESSES] as usize;
+    waiting::waiting(
+        t,
+        &r[runs::CLOCKS..runs::WORDS],
+        &r[runs::PLACES..runs::PLACES + n],
+    )
 }

@@ -3,39 +3,10 @@ use graph_tables::inner;
 ghost use mathlib.Core.Path.{_≡_};
 ghost use Prim.Native.Nat.{_<_};
 ghost use lib.ListN.{length};
-ghost use Rattle.time.specs.Time.{lowerMet, upperMet};
 ghost use Rattle.graph_tables.specs.Sizes.{clockRoom, groupRoom, limitRoom};
-ghost use Rattle.graph_tables.specs.Words.{Words, clockOf, locationCount, boundOf};
+ghost use Rattle.graph_tables.specs.Words.{Words, clockOf, locationCount};
 ghost use Rattle.graph_tables.specs.Sound.{Sound, LimitsSound};
 ghost use Rattle.run_steps.specs.Steps.{limitHolds, limitsHold, invariantsHold};
-
-// The lower bound that a word stands for is met at a time.
-pub fn lower_met(w: u64, time: u64) -> bool
-    ensures { λ r. ⌜ r ≡ lowerMet (boundOf w) time ⌝ }
-{
-    let kind = w % 4;
-    if kind == 1 {
-        return w / 4 <= time;
-    }
-    if kind == 2 {
-        return w / 4 < time;
-    }
-    true
-}
-
-// The upper bound that a word stands for is met at a time.
-pub fn upper_met(w: u64, time: u64) -> bool
-    ensures { λ r. ⌜ r ≡ upperMet (boundOf w) time ⌝ }
-{
-    let kind = w % 4;
-    if kind == 1 {
-        return time <= w / 4;
-    }
-    if kind == 2 {
-        return time < w / 4;
-    }
-    true
-}
 
 // Limit i of a group holds.
 fn limit_holds(t: &[u64], g: usize, i: usize, clocks: &[u64]) -> bool
@@ -43,10 +14,10 @@ fn limit_holds(t: &[u64], g: usize, i: usize, clocks: &[u64]) -> bool
     ensures { λ r. ⌜ r ≡ limitHolds (now (t .entry)) g (now (clocks .entry)) i ⌝ }
 {
     let time = clocks[inner::clock_of(t, g, i)];
-    if !lower_met(inner::lower_of(t, g, i), time) {
+    if !inner::lower_met(inner::lower_of(t, g, i), time) {
         return false;
     }
-    upper_met(inner::upper_of(t, g, i), time)
+    inner::upper_met(inner::upper_of(t, g, i), time)
 }
 
 // Every limit of a group holds.

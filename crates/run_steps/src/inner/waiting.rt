@@ -1,5 +1,4 @@
 // Whether some transition will be open later, over clocks and places that are lent.
-use crate::inner::limits;
 use graph_tables::inner;
 ghost use mathlib.Core.Path.{_≡_};
 ghost use Prim.Native.Nat.{_<_};
@@ -9,7 +8,8 @@ ghost use Rattle.graph_tables.specs.Sizes.{clockRoom, groupRoom, limitRoom, loc
 ghost use Rattle.graph_tables.specs.Words.{Words, clockOf, preOf, actionOf, postOf, transitionCount};
 ghost use Rattle.graph_tables.specs.Sound.{LimitsSound, Sound};
 ghost use Rattle.run_steps.specs.Steps.{leavesBy};
-ghost use Rattle.run_steps.specs.Waiting.{PlacesKnown, lowerUnmet, upperHolds, dueOf, comingOf, sharedOf, awaitedOf, processWaits, waitingOf};
+ghost use Rattle.run_steps.specs.Waiting.{PlacesKnown, lowerUnmet, upperHolds, dueOf, comingOf, sharedOf, awaitedOf, processWaits};
+ghost use Rattle.run_steps.specs.Waiting.{waitingOf};
 
 // The lower bound of limit i is not yet met.
 fn lower_unmet(t: &[u64], g: usize, i: usize, clocks: &[u64]) -> bool
@@ -17,7 +17,7 @@ fn lower_unmet(t: &[u64], g: usize, i: usize, clocks: &[u64]) -> bool
     ensures { λ r. ⌜ r ≡ lowerUnmet (now (t .entry)) g (now (clocks .entry)) i ⌝ }
 {
     let time = clocks[inner::clock_of(t, g, i)];
-    !limits::lower_met(inner::lower_of(t, g, i), time)
+    !inner::lower_met(inner::lower_of(t, g, i), time)
 }
 
 // The upper bound of limit i is not passed.
@@ -26,7 +26,7 @@ fn upper_holds(t: &[u64], g: usize, i: usize, clocks: &[u64]) -> bool
     ensures { λ r. ⌜ r ≡ upperHolds (now (t .entry)) g (now (clocks .entry)) i ⌝ }
 {
     let time = clocks[inner::clock_of(t, g, i)];
-    limits::upper_met(inner::upper_of(t, g, i), time)
+    inner::upper_met(inner::upper_of(t, g, i), time)
 }
 
 fn any_unmet(t: &[u64], g: usize, n: usize, clocks: &[u64]) -> bool
@@ -120,7 +120,10 @@ pub fn is_shared(t: &[u64], places: &[u64], action: u32) -> bool
 
 // Transition k leaves the location of process p by an action that all have, and will be open later.
 fn is_awaited(t: &[u64], clocks: &[u64], places: &[u64], p: usize, k: usize) -> bool
-    requires { ⌜ Sound (now t) × (length (now clocks) ≡ clockRoom) × PlacesKnown (now t) (now places) × (p < length (now places)) × (k < transitionCount (now t)) ⌝ }
+    requires {
+        ⌜ Sound (now t) × (length (now clocks) ≡ clockRoom) × PlacesKnown (now t) (now places) × (p < length (now places))
+        × (k < transitionCount (now t)) ⌝
+    }
     ensures { λ r. ⌜ r ≡ awaitedOf (now (t .entry)) (now (clocks .entry)) (now (places .entry)) (length (now (places .entry))) p k ⌝ }
 {
     let key = inner::key_of(t, k);

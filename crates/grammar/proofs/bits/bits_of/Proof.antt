@@ -15,7 +15,9 @@ use Rattle.grammar.proofs.bits.bits_of.Tie as tie
 same : (c : tie.Start) → toZ w32 (ofZ w32 (c .args .n)) ≡ c .args .n
 same c = toZ-ofZ w32 (c .args .n) (c .fits .n)
 
-above : (c : tie.Then1) → (T (nonNeg (c .before .args .n)) × Fits w32 (natAbs (c .before .args .n))) × (natAbs (c .before .args .n) ≡ bitsOf (c .before .args .n))
+above : (c : tie.Then1)
+    → (T (nonNeg (c .before .args .n)) × Fits w32
+    (natAbs (c .before .args .n))) × (natAbs (c .before .args .n) ≡ bitsOf (c .before .args .n))
 above c = up (c .before .args .n) (c .before .fits .n) (rw (same (c .before)) at (c .if1 .taken))
 
 below : (c : tie.Else1) → Down (c .before .args .n)

@@ -11,7 +11,9 @@ use Rattle.grammar.proofs.bits.from_bits.Statement.{statement}
 use Rattle.grammar.proofs.bits.from_bits.Tie as tie
 
 below : (c : tie.Else1) → negsuc 0 -ℤ toZ w32 (4294967295 - c .before .args .b) ≡ negsuc (4294967295 - c .before .args .b)
-below c = ap (λ (z : ℤ). negsuc 0 -ℤ z) (toZ-pos w32 (4294967295 - c .before .args .b) (omega arith)) ∙ neg-less-one (4294967295 - c .before .args .b)
+below c =
+    ap (λ (z : ℤ). negsuc 0 -ℤ z) (toZ-pos w32 (4294967295 - c .before .args .b) (omega arith))
+    ∙ neg-less-one (4294967295 - c .before .args .b)
 
 sub-result-2 : tie.Need-sub-result-2
 sub-result-2 c = rw (below c) (record { sfits = omega arith })

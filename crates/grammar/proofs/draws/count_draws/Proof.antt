@@ -17,7 +17,8 @@ Inv-loop items n₀ at₀ at-end n at = (at ≤ length items) × (n ≤ at) × (
 abbrev μ-loop : tie.MeasureT-loop
 μ-loop items n₀ at₀ at-end n at = length items - at
 
-most : (c : tie.After-draws-in Inv-loop μ-loop) → drawsIn (itemOf (getD (c .before .before .before .before .before .args .items .now) (c .before .before .before .loop .at) 0)) ≤ 1
+most : (c : tie.After-draws-in Inv-loop μ-loop)
+    → drawsIn (itemOf (getD (c .before .before .before .before .before .args .items .now) (c .before .before .before .loop .at) 0)) ≤ 1
 most c = draws-most (itemOf (getD (c .before .before .before .before .before .args .items .now) (c .before .before .before .loop .at) 0))
 
 add-n : tie.Need-add-n Inv-loop μ-loop

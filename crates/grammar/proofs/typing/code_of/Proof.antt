@@ -15,7 +15,10 @@ returns c = ap (λ (t : Typed). codeOf t (drawsOf (c .before .before .before .ar
 
 returns-2 : tie.Need-returns-2
 unfolding typeOf
-returns-2 c = c .code-of-run .ensures ∙ ap (λ (t : Typed). codeOf t (drawsOf (c .before .before .before .before .args .items .now))) (passed _ (le-leb _ _ (c .before .if1 .left)) refl)
+returns-2 c =
+    c .code-of-run .ensures
+    ∙ ap (λ (t : Typed). codeOf t (drawsOf (c .before .before .before .before .args .items .now)))
+    (passed _ (le-leb _ _ (c .before .if1 .left)) refl)
 
 pub code-of-spec : {M : Type 1} → statement M
 code-of-spec = tie.close (tie.spec returns (λ c κs. search needs) returns-2)

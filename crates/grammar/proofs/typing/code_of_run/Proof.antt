@@ -4,7 +4,8 @@ use native.Mathlib.Omega.{arith}
 use lib.ListN.{length}
 use borrow.Author.Needs.{needs}
 use Rattle.grammar.proofs.DrawLaws.{draws-few}
-use Rattle.grammar.proofs.PassLaws.{Pass, start, stuck-here, gives-kind, last, room, all-drawn, operation, no-operation, constant, no-constant, drawn}
+use Rattle.grammar.proofs.PassLaws.{Pass, start, stuck-here, gives-kind, last, room, all-drawn, operation, no-operation, constant}
+use Rattle.grammar.proofs.PassLaws.{no-constant, drawn}
 use Rattle.grammar.proofs.typing.code_of_run.Statement.{statement}
 use Rattle.grammar.proofs.typing.code_of_run.Tie as tie
 
@@ -21,10 +22,14 @@ operated-requires : tie.Need-operated-requires Inv-loop μ-loop
 operated-requires c κs = (c .if1 .taken, c .before .before .before .loop .inv .small)
 
 returns : tie.Need-returns Inv-loop μ-loop
-returns c = no-operation (c .before .before .before .before .before .loop .inv) (omega arith) (c .before .before .if1 .taken) _ (c .before .operated .ensures) (c .if2 .taken)
+returns c =
+    no-operation (c .before .before .before .before .before .loop .inv) (omega arith) (c .before .before .if1 .taken) _
+    (c .before .operated .ensures) (c .if2 .taken)
 
 loop-again : tie.Need-loop-again Inv-loop μ-loop
-loop-again c = operation (c .before .before .before .before .before .loop .inv) (omega arith) (c .before .before .if1 .taken) _ (c .before .operated .ensures) (omega arith)
+loop-again c =
+    operation (c .before .before .before .before .before .loop .inv) (omega arith) (c .before .before .if1 .taken) _
+    (c .before .operated .ensures) (omega arith)
 
 mul-integers : tie.Need-mul-integers Inv-loop μ-loop
 mul-integers c =
@@ -40,10 +45,14 @@ add-depth : tie.Need-add-depth Inv-loop μ-loop
 add-depth c = omega (arith, c .before .before .before .before .before .loop .inv .shallow)
 
 loop-again-2 : tie.Need-loop-again-2 Inv-loop μ-loop
-loop-again-2 c = constant (c .before .before .before .before .before .before .loop .inv) (omega arith) _ (c .before .before .constant-kind .ensures) (c .before .before .before .if1 .left) (c .before .if3 .taken) _ (c .larger .ensures)
+loop-again-2 c =
+    constant (c .before .before .before .before .before .before .loop .inv) (omega arith) _ (c .before .before .constant-kind .ensures)
+    (c .before .before .before .if1 .left) (c .before .if3 .taken) _ (c .larger .ensures)
 
 returns-2 : tie.Need-returns-2 Inv-loop μ-loop
-returns-2 c = no-constant (c .before .before .before .before .before .before .loop .inv) (omega arith) _ (c .before .before .constant-kind .ensures) (omega (arith, c .before .before .before .if1 .left)) (c .before .if3 .left)
+returns-2 c =
+    no-constant (c .before .before .before .before .before .before .loop .inv) (omega arith) _ (c .before .before .constant-kind .ensures)
+    (omega (arith, c .before .before .before .if1 .left)) (c .before .if3 .left)
 
 mul-integers-2 : tie.Need-mul-integers-2 Inv-loop μ-loop
 mul-integers-2 c =
@@ -59,7 +68,9 @@ add-draws c =
     omega (arith, l .before .before .before .pre, l .loop .inv .same-draws, draws-few (l .before .before .before .args .items .now))
 
 loop-again-3 : tie.Need-loop-again-3 Inv-loop μ-loop
-loop-again-3 c = drawn (c .before .before .before .before .before .before .before .loop .inv) (omega arith) (c .before .if4 .left) _ (c .larger2 .ensures)
+loop-again-3 c =
+    drawn (c .before .before .before .before .before .before .before .loop .inv) (omega arith) (c .before .if4 .left) _
+    (c .larger2 .ensures)
 
 returns-3 : tie.Need-returns-3 Inv-loop μ-loop
 returns-3 c = stuck-here (c .before .before .loop .inv) (omega arith) (c .if5 .taken)

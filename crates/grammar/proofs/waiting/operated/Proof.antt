@@ -18,7 +18,9 @@ returns-3 : tie.Need-returns-3
 returns-3 c = none-left _ _ _ _ (c .ill .ensures) (c .before .if4 .taken)
 
 returns-4 : tie.Need-returns-4
-returns-4 c = rw (logic (c .before .before .before .before .before .args .w) (omega arith) (c .before .before .before .if2 .left) (c .before .before .if3 .left) (c .before .if4 .left)) (c .logic .ensures)
+returns-4 c =
+    rw (logic (c .before .before .before .before .before .args .w) (omega arith) (c .before .before .before .if2 .left)
+    (c .before .before .if3 .left) (c .before .if4 .left)) (c .logic .ensures)
 
 returns-5 : tie.Need-returns-5
 returns-5 c = rw (arithmetic (c .before .before .before .args .w) (omega arith) (omega arith)) (c .arithmetic .ensures)

@@ -9,7 +9,8 @@ use borrow.Author.Needs.{needs}
 use Rattle.graph_checks.proofs.checks.action_effect_check.Statement.{statement}
 use Rattle.graph_checks.proofs.checks.action_effect_check.Tie as tie
 
-accepted : (e : tie.After-enum-told) → plainCheck (e .before .before .before .before .before .args .t .now) (e .before .before .before .before .before .args .a) ≡ Accepted
+accepted : (e : tie.After-enum-told)
+    → plainCheck (e .before .before .before .before .before .args .t .now) (e .before .before .before .before .before .args .a) ≡ Accepted
 accepted e = sym (e .before .before .plain-check .ensures) ∙ e .enum-told .given .1
 
 returns : tie.Need-returns

@@ -27,7 +27,8 @@ returns c =
     let d = c .before in
     let k = d .before in
     let l = k .before .before .before in
-    sym (all-fails _ _ (l .loop .i) (omega arith) (failed (rw (k .kinds-of .ensures, k .before .choose .ensures) at (d .is-shallow .ensures)) (c .if1 .taken)))
+    sym (all-fails _ _ (l .loop .i) (omega arith)
+    (failed (rw (k .kinds-of .ensures, k .before .choose .ensures) at (d .is-shallow .ensures)) (c .if1 .taken)))
 
 loop-again : tie.Need-loop-again Inv-loop μ-loop
 unfolding shallow
@@ -35,7 +36,8 @@ loop-again c =
     let d = c .before in
     let k = d .before in
     let l = k .before .before .before in
-    (omega arith, all-more _ _ (l .loop .inv .1) (held (rw (k .kinds-of .ensures, k .before .choose .ensures) at (d .is-shallow .ensures)) (c .if1 .left)))
+    (omega arith, all-more _ _ (l .loop .inv .1)
+    (held (rw (k .kinds-of .ensures, k .before .choose .ensures) at (d .is-shallow .ensures)) (c .if1 .left)))
 
 returns-2 : tie.Need-returns-2 Inv-loop μ-loop
 returns-2 c = sym (all-done _ _ (c .before .loop .i) (omega arith) (omega arith) (c .before .loop .inv .1))

@@ -21,10 +21,12 @@ loop-holds c = (search needs, all-none _)
 
 returns : tie.Need-returns Inv-loop μ-loop
 unfolding allStartInside
-returns c = sym (all-fails _ _ (c .before .before .before .loop .i) (omega arith) (failed (c .before .starts-inside .ensures) (c .if1 .taken)))
+returns c =
+    sym (all-fails _ _ (c .before .before .before .loop .i) (omega arith) (failed (c .before .starts-inside .ensures) (c .if1 .taken)))
 
 loop-again : tie.Need-loop-again Inv-loop μ-loop
-loop-again c = (omega arith, all-more _ _ (c .before .before .before .loop .inv .1) (held (c .before .starts-inside .ensures) (c .if1 .left)))
+loop-again c =
+    (omega arith, all-more _ _ (c .before .before .before .loop .inv .1) (held (c .before .starts-inside .ensures) (c .if1 .left)))
 
 returns-2 : tie.Need-returns-2 Inv-loop μ-loop
 unfolding allStartInside
@@ -32,4 +34,5 @@ returns-2 c = sym (all-done _ _ (c .before .loop .i) (omega arith) (omega arith)
 
 pub all-start-inside-spec : {M : Type 1} → statement M
 all-start-inside-spec =
-    tie.close (tie.spec Inv-loop μ-loop loop-holds (λ c κs. search needs) returns (λ c. search needs) (λ c. search needs) loop-again returns-2)
+    tie.close (tie.spec Inv-loop μ-loop loop-holds (λ c κs. search needs) returns (λ c. search needs)
+    (λ c. search needs) loop-again returns-2)

@@ -19,7 +19,8 @@ short a = ap not (sym (a .before .too-long .ensures) ∙ a .if1 .left)
 kind : (b : tie.Else2) → kinded (b .before .before .before .before .before .args .typed) ≡ true
 kind b = held (b .before .has-kind .ensures) (b .if2 .left)
 
-known : (d : tie.Else3) → d .before .before .before .before .before .before .before .args .v < variableCount (d .before .before .before .before .before .before .before .args .t .now)
+known : (d : tie.Else3) → let s = d .before .before .before .before .before .before .before in
+    s .args .v < variableCount (s .args .t .now)
 known d = rw (d .before .variable-count .ensures) at (d .if3 .left)
 
 returns : tie.Need-returns
@@ -28,7 +29,8 @@ returns c = stopped (refusedBy 28) _ (ap not (sym (c .before .too-long .ensures)
 
 returns-2 : tie.Need-returns-2
 unfolding assignedCheck
-returns-2 c = passed (refusedBy 28) (short (c .before .before)) (stopped (refusedBy 6) _ (failed (c .before .has-kind .ensures) (c .if2 .taken)))
+returns-2 c =
+    passed (refusedBy 28) (short (c .before .before)) (stopped (refusedBy 6) _ (failed (c .before .has-kind .ensures) (c .if2 .taken)))
 
 returns-3 : tie.Need-returns-3
 unfolding assignedCheck

@@ -21,7 +21,8 @@ loop-holds c = (search needs, all-none _)
 
 returns : tie.Need-returns Inv-loop μ-loop
 unfolding clocksKnown
-returns c = sym (all-fails _ _ (c .before .before .before .loop .i) (omega arith) (failed (c .before .clock-known .ensures) (c .if1 .taken)))
+returns c =
+    sym (all-fails _ _ (c .before .before .before .loop .i) (omega arith) (failed (c .before .clock-known .ensures) (c .if1 .taken)))
 
 loop-again : tie.Need-loop-again Inv-loop μ-loop
 loop-again c = (omega arith, all-more _ _ (c .before .before .before .loop .inv .1) (held (c .before .clock-known .ensures) (c .if1 .left)))
@@ -32,4 +33,5 @@ returns-2 c = sym (all-done _ _ (c .before .loop .i) (omega arith) (omega arith)
 
 pub clocks-known-spec : {M : Type 1} → statement M
 clocks-known-spec =
-    tie.close (tie.spec Inv-loop μ-loop loop-holds (λ c κs. search needs) returns (λ c. search needs) (λ c. search needs) loop-again returns-2)
+    tie.close (tie.spec Inv-loop μ-loop loop-holds (λ c κs. search needs) returns (λ c. search needs)
+    (λ c. search needs) loop-again returns-2)

@@ -30,7 +30,8 @@ returns-3 : tie.Need-returns-3
 unfolding effectCheck
 returns-3 c =
     let e = c .before in
-    passed (Refused BadState) (formed (e .before .before)) (passed (Refused NoEffects) (other (e .if2 .left)) (c .known-effect-check .ensures))
+    passed (Refused BadState) (formed (e .before .before))
+    (passed (Refused NoEffects) (other (e .if2 .left)) (c .known-effect-check .ensures))
 
 pub effect-check-spec : {M : Type 1} → statement M
 effect-check-spec =

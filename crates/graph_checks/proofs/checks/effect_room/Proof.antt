@@ -18,11 +18,15 @@ use Rattle.graph_checks.proofs.checks.effect_room.Tie as tie
 flat : (a : tie.Else1) → not (tooDeep (a .before .before .before .args .typed)) ≡ true
 flat a = ap not (sym (a .before .too-deep .ensures) ∙ a .if1 .left)
 
-few : (b : tie.Else2) → effectCount (b .before .before .before .before .before .args .t .now) (b .before .before .before .before .before .args .a) < effectRoom
+few : (b : tie.Else2)
+    → effectCount (b .before .before .before .before .before .args .t .now)
+    (b .before .before .before .before .before .args .a) < effectRoom
 few b = rw (b .before .effect-count .ensures) at (b .if2 .left)
 
 -- the draws of the effects that are there
-drawn : (d : tie.After-all-draws) → let s = d .before .before .before .before .before .before .args in d .all-draws .result ≡ sumBelow (effectCount (s .t .now) (s .a)) (effectDraws (s .t .now) (s .a))
+drawn : (d : tie.After-all-draws)
+    → let s = d .before .before .before .before .before .before .args in d .all-draws .result
+    ≡ sumBelow (effectCount (s .t .now) (s .a)) (effectDraws (s .t .now) (s .a))
 drawn d = rw (d .before .before .effect-count .ensures) at (d .all-draws .ensures)
 
 returns : tie.Need-returns
@@ -36,14 +40,17 @@ effect-count-requires c κs =
 
 returns-2 : tie.Need-returns-2
 unfolding roomForEffect
-returns-2 c = passed (refusedBy 28) (flat (c .before .before)) (stopped (refusedBy 28) _ (le-ltb _ _ (rw (c .before .effect-count .ensures) at (c .if2 .taken))))
+returns-2 c =
+    passed (refusedBy 28) (flat (c .before .before))
+    (stopped (refusedBy 28) _ (le-ltb _ _ (rw (c .before .effect-count .ensures) at (c .if2 .taken))))
 
 all-draws-requires : tie.Need-all-draws-requires
 all-draws-requires c κs =
     let n = c .before in
     let s = n .before .before .before .before in
     let f = s .pre .0 in
-    (f .words, omega (arith, f .counts .actions, s .pre .1), omega (arith, c .if2 .left), λ e l. f .action _ (s .pre .1) .plain (s .pre .2) .effect e (rw (n .effect-count .ensures) at l) .expression .short)
+    (f .words, omega (arith, f .counts .actions, s .pre .1), omega (arith, c .if2 .left), λ e l. f .action _ (s .pre .1) .plain
+    (s .pre .2) .effect e (rw (n .effect-count .ensures) at l) .expression .short)
 
 add-if3 : tie.Need-add-if3
 add-if3 c =

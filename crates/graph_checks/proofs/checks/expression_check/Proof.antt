@@ -8,10 +8,13 @@ use borrow.Author.Needs.{needs}
 use Rattle.graph_checks.proofs.checks.expression_check.Statement.{statement}
 use Rattle.graph_checks.proofs.checks.expression_check.Tie as tie
 
-long : (l : tie.After-too-long) → let s = l .before .before .before .before .args in l .too-long .result ≡ tooLong (typeOf (s .kinds .now) (s .items .now))
+long : (l : tie.After-too-long)
+    → let s = l .before .before .before .before .args in l .too-long .result ≡ tooLong (typeOf (s .kinds .now) (s .items .now))
 long l = l .too-long .ensures ∙ ap tooLong (l .before .type-of .ensures)
 
-kind : (k : tie.After-has-kind) → let s = k .before .before .before .before .before .before .args in k .has-kind .result ≡ kinded (typeOf (s .kinds .now) (s .items .now))
+kind : (k : tie.After-has-kind)
+    → let s = k .before .before .before .before .before .before .args in k .has-kind .result
+    ≡ kinded (typeOf (s .kinds .now) (s .items .now))
 kind k = k .has-kind .ensures ∙ ap kinded (k .before .before .before .type-of .ensures)
 
 returns : tie.Need-returns

@@ -17,8 +17,11 @@ use Rattle.graph_checks.specs.Checks.{refusedBy, guardCheck}
 use Rattle.graph_checks.proofs.checks.guard_check.Statement.{statement}
 use Rattle.graph_checks.proofs.checks.guard_check.Tie as tie
 
-typed-is : (c : tie.After-type-of) → c .type-of .result ≡ typeOf (kindsOf (c .before .before .before .before .args .t .now)) (c .before .before .before .before .args .items .now)
-typed-is c = c .type-of .ensures ∙ ap (λ (k : List ℕ). typeOf k (c .before .before .before .before .args .items .now)) (c .before .kinds-of .ensures)
+typed-is : (c : tie.After-type-of)
+    → c .type-of .result
+    ≡ typeOf (kindsOf (c .before .before .before .before .args .t .now)) (c .before .before .before .before .args .items .now)
+typed-is c =
+    c .type-of .ensures ∙ ap (λ (k : List ℕ). typeOf k (c .before .before .before .before .args .items .now)) (c .before .kinds-of .ensures)
 
 -- there is a draw, and there is none
 draws : {r : Bool} (n : ℕ) → r ≡ ltb 0 n → r ≡ true → eqb n 0 ≡ false
@@ -52,7 +55,8 @@ returns-3 c =
     let l = b .before in
     passed (refusedBy 28) (granted (l .too-long .ensures ∙ ap tooLong (typed-is (l .before))) (b .if1 .left))
     (passed (refusedBy 6) (held (k .kinded-as .ensures ∙ ap (kindedAs 0) (typed-is (l .before))) (d .if2 .left))
-    (stopped (refusedBy 6) _ (draws (drawsOf (l .before .before .before .before .before .args .items .now)) (h .has-draws .ensures) (c .if3 .taken))))
+    (stopped (refusedBy 6) _
+    (draws (drawsOf (l .before .before .before .before .before .args .items .now)) (h .has-draws .ensures) (c .if3 .taken))))
 
 returns-4 : tie.Need-returns-4
 unfolding guardCheck
@@ -66,7 +70,8 @@ returns-4 c =
     let l = b .before in
     passed (refusedBy 28) (granted (l .too-long .ensures ∙ ap tooLong (typed-is (l .before))) (b .if1 .left))
     (passed (refusedBy 6) (held (k .kinded-as .ensures ∙ ap (kindedAs 0) (typed-is (l .before))) (d .if2 .left))
-    (passed (refusedBy 6) (no-draws (drawsOf (l .before .before .before .before .before .args .items .now)) (h .has-draws .ensures) (e .if3 .left))
+    (passed (refusedBy 6)
+    (no-draws (drawsOf (l .before .before .before .before .before .args .items .now)) (h .has-draws .ensures) (e .if3 .left))
     (stopped (refusedBy 28) _ (denied (q .too-deep .ensures ∙ ap tooDeep (typed-is (l .before))) (c .if4 .taken)))))
 
 returns-5 : tie.Need-returns-5
@@ -81,7 +86,8 @@ returns-5 c =
     let l = b .before in
     passed (refusedBy 28) (granted (l .too-long .ensures ∙ ap tooLong (typed-is (l .before))) (b .if1 .left))
     (passed (refusedBy 6) (held (k .kinded-as .ensures ∙ ap (kindedAs 0) (typed-is (l .before))) (d .if2 .left))
-    (passed (refusedBy 6) (no-draws (drawsOf (l .before .before .before .before .before .args .items .now)) (h .has-draws .ensures) (e .if3 .left))
+    (passed (refusedBy 6)
+    (no-draws (drawsOf (l .before .before .before .before .before .args .items .now)) (h .has-draws .ensures) (e .if3 .left))
     (passed (refusedBy 28) (granted (q .too-deep .ensures ∙ ap tooDeep (typed-is (l .before))) (c .if4 .left)) refl)))
 
 pub guard-check-spec : {M : Type 1} → statement M

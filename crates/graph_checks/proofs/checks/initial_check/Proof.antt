@@ -24,13 +24,15 @@ returns-2 c =
     let l = c .before in
     let k = l .before .before in
     let w = k .before in
-    passed (refusedBy 32) (held (w .before .well-formed .ensures) (w .if1 .left)) (then-stops _ (sym (k .limits-check .ensures) ∙ l .limits .given .1))
+    passed (refusedBy 32) (held (w .before .well-formed .ensures) (w .if1 .left))
+    (then-stops _ (sym (k .limits-check .ensures) ∙ l .limits .given .1))
 
 start-check-requires : tie.Need-start-check-requires
 start-check-requires c κs =
     let k = c .before .before in
     let w = k .before in
-    (sound _ true (held (w .before .well-formed .ensures) (w .if1 .left)), limits-ready _ _ (sym (k .limits-check .ensures) ∙ c .enum-told .given .1) .0)
+    (sound _ true (held (w .before .well-formed .ensures) (w .if1 .left)), limits-ready _ _
+    (sym (k .limits-check .ensures) ∙ c .enum-told .given .1) .0)
 
 returns-3 : tie.Need-returns-3
 unfolding initialCheck

@@ -8,10 +8,13 @@ use borrow.Author.Needs.{needs}
 use Rattle.graph_checks.proofs.checks.known_effect_check.Statement.{statement}
 use Rattle.graph_checks.proofs.checks.known_effect_check.Tie as tie
 
-typed : (y : tie.After-type-of) → let s = y .before .before .before .before .args in y .type-of .result ≡ typeOf (kindsOf (s .t .now)) (s .items .now)
+typed : (y : tie.After-type-of)
+    → let s = y .before .before .before .before .args in y .type-of .result ≡ typeOf (kindsOf (s .t .now)) (s .items .now)
 typed y = rw (y .before .kinds-of .ensures) at (y .type-of .ensures)
 
-assigned : (a : tie.After-assigned-check) → let s = a .before .before .before .before .before .args in a .assigned-check .result ≡ assignedCheck (s .t .now) (s .v) (typeOf (kindsOf (s .t .now)) (s .items .now))
+assigned : (a : tie.After-assigned-check)
+    → let s = a .before .before .before .before .before .args in a .assigned-check .result
+    ≡ assignedCheck (s .t .now) (s .v) (typeOf (kindsOf (s .t .now)) (s .items .now))
 assigned a = rw (typed (a .before)) at (a .assigned-check .ensures)
 
 returns : tie.Need-returns

@@ -24,7 +24,8 @@ returns-2 c =
     let l = c .before in
     let k = l .before .before in
     let w = k .before in
-    passed (refusedBy 32) (held (w .before .well-formed .ensures) (w .if1 .left)) (then-stops _ (sym (k .limits-check .ensures) ∙ l .limits .given .1))
+    passed (refusedBy 32) (held (w .before .well-formed .ensures) (w .if1 .left))
+    (then-stops _ (sym (k .limits-check .ensures) ∙ l .limits .given .1))
 
 location-count-requires : tie.Need-location-count-requires
 location-count-requires c κs =

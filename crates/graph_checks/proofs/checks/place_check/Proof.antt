@@ -17,4 +17,6 @@ returns-2 c =
     passed (refusedBy 9) (held (z .before .zero-at .ensures) (z .if1 .left)) (rw (n .process-count .ensures) at (c .room-for .ensures))
 
 pub place-check-spec : {M : Type 1} → statement M
-place-check-spec = tie.close (tie.spec (λ c κs. c .before .pre) returns (λ c κs. c .before .before .before .pre .0 .words) (λ c κs. search needs) returns-2)
+place-check-spec =
+    tie.close (tie.spec (λ c κs. c .before .pre) returns (λ c κs. c .before .before .before .pre .0 .words)
+    (λ c κs. search needs) returns-2)

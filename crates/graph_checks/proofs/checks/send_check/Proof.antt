@@ -19,7 +19,9 @@ use Rattle.graph_checks.proofs.checks.send_check.Tie as tie
 formed : (w : tie.Else1) → wellFormed (w .before .before .before .before .before .before .before .args .t .now) true ≡ true
 formed w = held (w .before .well-formed .ensures) (w .if1 .left)
 
-checked : (m : tie.After-message-check) → let s = m .before .before .before .before .before .before .before .before .before .args in eachBelow (s .count) (expressionCheck (kindsOf (s .t .now)) (chosen (s .w .now) (s .x .now) (s .y .now) (s .z .now))) ≡ m .message-check .result
+checked : (m : tie.After-message-check)
+    → let s = m .before .before .before .before .before .before .before .before .before .args in eachBelow (s .count)
+    (expressionCheck (kindsOf (s .t .now)) (chosen (s .w .now) (s .x .now) (s .y .now) (s .z .now))) ≡ m .message-check .result
 checked m = sym (m .message-check .ensures)
 
 returns : tie.Need-returns
@@ -58,7 +60,8 @@ returns-4 c =
     let s = b .before .before .before .before .before .before .before .before .args in
     passed (Refused BadState) (formed (b .before))
     (passed (Refused TableFull) (le-leb _ _ (b .if2 .left))
-    (then-on {rest = sendRoom (s .t .now) (chosen (s .w .now) (s .x .now) (s .y .now) (s .z .now)) (s .count)} (checked m ∙ e .enum-told .given .1) (c .send-room .ensures)))
+    (then-on {rest = sendRoom (s .t .now) (chosen (s .w .now) (s .x .now) (s .y .now) (s .z .now)) (s .count)}
+    (checked m ∙ e .enum-told .given .1) (c .send-room .ensures)))
 
 pub send-check-spec : {M : Type 1} → statement M
 send-check-spec =

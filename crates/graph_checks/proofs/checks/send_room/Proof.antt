@@ -16,10 +16,14 @@ use Rattle.graph_checks.proofs.checks.send_room.Statement.{statement}
 use Rattle.graph_checks.proofs.checks.send_room.Tie as tie
 
 -- what each test says where it is passed
-flat : (a : tie.Else1) → let s = a .before .before .before .before .before .before .before .args in allBelow (s .count) (shallow (kindsOf (s .t .now)) (chosen (s .w .now) (s .x .now) (s .y .now) (s .z .now))) ≡ true
+flat : (a : tie.Else1)
+    → let s = a .before .before .before .before .before .before .before .args in allBelow (s .count)
+    (shallow (kindsOf (s .t .now)) (chosen (s .w .now) (s .x .now) (s .y .now) (s .z .now))) ≡ true
 flat a = held (a .before .all-shallow .ensures) (a .if1 .left)
 
-few : (b : tie.Else2) → let s = b .before .before .before .before .before .before .before .before .before .args in sumBelow (s .count) (messageDraws (chosen (s .w .now) (s .x .now) (s .y .now) (s .z .now))) ≤ drawRoom
+few : (b : tie.Else2)
+    → let s = b .before .before .before .before .before .before .before .before .before .args in sumBelow (s .count)
+    (messageDraws (chosen (s .w .now) (s .x .now) (s .y .now) (s .z .now))) ≤ drawRoom
 few b = rw (b .before .message-draws .ensures) at (b .if2 .left)
 
 returns : tie.Need-returns
@@ -28,7 +32,9 @@ returns c = stopped (Refused TableFull) _ (failed (c .before .all-shallow .ensur
 
 returns-2 : tie.Need-returns-2
 unfolding sendRoom
-returns-2 c = passed (Refused TableFull) (flat (c .before .before)) (stopped (Refused TableFull) _ (lt-leb _ _ (rw (c .before .message-draws .ensures) at (c .if2 .taken))))
+returns-2 c =
+    passed (Refused TableFull) (flat (c .before .before))
+    (stopped (Refused TableFull) _ (lt-leb _ _ (rw (c .before .message-draws .ensures) at (c .if2 .taken))))
 
 returns-3 : tie.Need-returns-3
 unfolding sendRoom

@@ -23,7 +23,8 @@ returns-2 c =
     let l = c .before in
     let k = l .before .before in
     let w = k .before in
-    passed (refusedBy 32) (held (w .before .well-formed .ensures) (w .if1 .left)) (then-stops _ (sym (k .ends-check .ensures) ∙ l .ends .given .1))
+    passed (refusedBy 32) (held (w .before .well-formed .ensures) (w .if1 .left))
+    (then-stops _ (sym (k .ends-check .ensures) ∙ l .ends .given .1))
 
 conditions-check-requires : tie.Need-conditions-check-requires
 conditions-check-requires c κs =

@@ -19,7 +19,8 @@ unfolding varCheck
 returns-2 c =
     let n = c .before in
     let w = n .before in
-    passed (refusedBy 32) (held (w .before .well-formed .ensures) (w .if1 .left)) (rw (n .variable-count .ensures) at (c .room-for .ensures))
+    passed (refusedBy 32) (held (w .before .well-formed .ensures) (w .if1 .left))
+    (rw (n .variable-count .ensures) at (c .room-for .ensures))
 
 pub var-check-spec : {M : Type 1} → statement M
 var-check-spec = tie.close (tie.spec (λ c κs. search needs) returns count-requires (λ c κs. search needs) returns-2)

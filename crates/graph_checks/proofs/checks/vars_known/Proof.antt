@@ -29,7 +29,9 @@ returns : tie.Need-returns Inv-loop μ-loop
 returns c = sym (all-fails _ _ (c .before .before .before .loop .i) (omega arith) (failed (c .before .var-known .ensures) (c .if1 .taken)))
 
 loop-again : tie.Need-loop-again Inv-loop μ-loop
-loop-again c = let l = c .before .before .before in (l .loop .inv .0, omega arith, all-more _ _ (l .loop .inv .2) (held (c .before .var-known .ensures) (c .if1 .left)))
+loop-again c =
+    let l = c .before .before .before in
+    (l .loop .inv .0, omega arith, all-more _ _ (l .loop .inv .2) (held (c .before .var-known .ensures) (c .if1 .left)))
 
 returns-2 : tie.Need-returns-2 Inv-loop μ-loop
 returns-2 c = sym (all-done _ _ (c .before .loop .i) (omega arith) (omega arith) (c .before .loop .inv .2))

@@ -21,5 +21,6 @@ all-limits-formed-spec =
     (λ c. let l = c .before .before .before in turn-fails _ _ (l .loop .i) (omega arith) (c .before .limit-formed .ensures) (c .if1 .taken))
     (λ c. search needs)
     (λ c. search needs)
-    (λ c. let l = c .before .before .before in turn-holds _ _ (l .loop .i) (omega arith) (l .loop .inv .1) (c .before .limit-formed .ensures) (c .if1 .left))
+    (λ c. let l = c .before .before .before in
+    turn-holds _ _ (l .loop .i) (omega arith) (l .loop .inv .1) (c .before .limit-formed .ensures) (c .if1 .left))
     (λ c. let l = c .before in turns-end _ _ (l .loop .i) (omega arith) (omega arith) (l .loop .inv .1)))

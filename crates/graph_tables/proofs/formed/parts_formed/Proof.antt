@@ -4,6 +4,7 @@ use Rattle.graph_tables.specs.Formed.{partsFormed}
 use Prim.Native.Nat.{_-_}
 use native.Mathlib.Omega.{arith}
 use borrow.Author.Needs.{needs}
+use Rattle.graph_tables.proofs.FormedLaws.{kinds-fit}
 use Rattle.graph_tables.proofs.formed.parts_formed.Statement.{statement}
 use Rattle.graph_tables.proofs.formed.parts_formed.Tie as tie
 
@@ -50,7 +51,8 @@ all-processes-formed-requires c κs =
     let f0 = e0 .before in
     let n0 = f0 .before in
     let s = n0 .before .before in
-    (s .pre .0, omega (arith, n2 .process-count .ensures, s .pre .1 .processes), s .pre .1 .locations, rw (n1 .location-count .ensures) at (held (f1 .all-locations-formed .ensures) (e1 .if2 .left)))
+    (s .pre .0, omega (arith, n2 .process-count .ensures, s .pre .1 .processes), s .pre .1 .locations,
+    rw (n1 .location-count .ensures) at (held (f1 .all-locations-formed .ensures) (e1 .if2 .left)))
 
 returns-3 : tie.Need-returns-3
 unfolding partsFormed
@@ -79,8 +81,12 @@ all-actions-formed-requires c κs =
     let e0 = n1 .before in
     let f0 = e0 .before in
     let n0 = f0 .before in
-    let s = n0 .before .before in
-    (s .pre .0, s .pre .1 .variables, omega (arith, n3 .action-count .ensures, s .pre .1 .actions))
+    let s = n0 .before .before in (
+      s .pre .0,
+      s .pre .1 .variables,
+      kinds-fit (s .args .t .now) (rw (n0 .variable-count .ensures) at (held (f0 .all-variables-formed .ensures) (e0 .if1 .left))),
+      omega (arith, n3 .action-count .ensures, s .pre .1 .actions),
+    )
 
 returns-4 : tie.Need-returns-4
 unfolding partsFormed
@@ -116,8 +122,12 @@ all-transitions-formed-requires c κs =
     let e0 = n1 .before in
     let f0 = e0 .before in
     let n0 = f0 .before in
-    let s = n0 .before .before in
-    (s .pre .0, s .pre .1 .variables, omega (arith, n4 .transition-count .ensures, s .pre .1 .transitions))
+    let s = n0 .before .before in (
+      s .pre .0,
+      s .pre .1 .variables,
+      kinds-fit (s .args .t .now) (rw (n0 .variable-count .ensures) at (held (f0 .all-variables-formed .ensures) (e0 .if1 .left))),
+      omega (arith, n4 .transition-count .ensures, s .pre .1 .transitions),
+    )
 
 returns-5 : tie.Need-returns-5
 unfolding partsFormed

@@ -1,11 +1,8 @@
 use borrow.Author.Tests.{le-leb, lt-leb}
+use borrow.Author.Needs.{needs}
 use Rattle.laws.proofs.BelowLaws.{and-yes, and-no}
 use Rattle.laws.proofs.Tests.{held, failed}
 use Rattle.graph_tables.specs.Formed.{plainFormed}
-use Rattle.graph_tables.proofs.FormedLaws.{short-effects}
-use Prim.Native.Nat.{_-_}
-use native.Mathlib.Omega.{arith}
-use borrow.Author.Needs.{needs}
 use Rattle.graph_tables.proofs.formed.plain_formed.Statement.{statement}
 use Rattle.graph_tables.proofs.formed.plain_formed.Tie as tie
 
@@ -18,48 +15,19 @@ unfolding plainFormed
 returns-2 c =
     let n = c .before in
     let a = n .before in
-    and-yes (held (a .before .resets-formed .ensures) (a .if1 .left)) (and-no _ (lt-leb _ _ (rw (n .effect-count .ensures) at (c .if2 .taken))))
+    and-yes (held (a .before .resets-formed .ensures) (a .if1 .left))
+    (and-no _ (lt-leb _ _ (rw (n .effect-count .ensures) at (c .if2 .taken))))
 
 returns-3 : tie.Need-returns-3
 unfolding plainFormed
 returns-3 c =
-    let f = c .before in
-    let b = f .before in
+    let b = c .before in
     let n = b .before in
     let a = n .before in
     and-yes (held (a .before .resets-formed .ensures) (a .if1 .left))
     (and-yes (le-leb _ _ (rw (n .effect-count .ensures) at (b .if2 .left)))
-    (and-no _ (rw (n .effect-count .ensures) at (failed (f .all-effects-formed .ensures) (c .if3 .taken)))))
-
-all-draws-requires : tie.Need-all-draws-requires
-all-draws-requires c κs =
-    let f = c .before in
-    let b = f .before in
-    let s = b .before .before .before .before .before in
-    (s .pre .0, s .pre .2, omega (arith, b .if2 .left), short-effects _ _ _ (held (f .all-effects-formed .ensures) (c .if3 .left)))
-
-returns-4 : tie.Need-returns-4
-unfolding plainFormed
-returns-4 c =
-    let d = c .before in
-    let f = d .before in
-    let b = f .before in
-    let n = b .before in
-    let a = n .before in
-    and-yes (held (a .before .resets-formed .ensures) (a .if1 .left))
-    (and-yes (le-leb _ _ (rw (n .effect-count .ensures) at (b .if2 .left)))
-    (and-yes (rw (n .effect-count .ensures) at (held (f .all-effects-formed .ensures) (d .if3 .left)))
-    (rw (c .all-draws .ensures, n .effect-count .ensures))))
+    (rw (n .effect-count .ensures) at (c .effects-formed .ensures)))
 
 pub plain-formed-spec : {M : Type 1} → statement M
 plain-formed-spec =
-    tie.close
-    (tie.spec
-    (λ c κs. search needs)
-    returns
-    (λ c κs. search needs)
-    returns-2
-    (λ c κs. search needs)
-    returns-3
-    all-draws-requires
-    returns-4)
+    tie.close (tie.spec (λ c κs. search needs) returns (λ c κs. search needs) returns-2 (λ c κs. search needs) returns-3)

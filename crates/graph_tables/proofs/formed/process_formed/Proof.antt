@@ -20,7 +20,8 @@ invariant-count-requires c κs =
     (s .pre .0, omega (arith, s .pre .2, n .location-count .ensures, c .before .if1 .left))
 
 invariant-group-requires : tie.Need-invariant-group-requires
-invariant-group-requires c κs = let s = c .before .before .before .before in omega (arith, s .pre .2, c .before .location-count .ensures, c .if1 .left)
+invariant-group-requires c κs =
+    let s = c .before .before .before .before in omega (arith, s .pre .2, c .before .location-count .ensures, c .if1 .left)
 
 all-zero-inside-requires : tie.Need-all-zero-inside-requires
 all-zero-inside-requires c κs =
@@ -35,7 +36,8 @@ all-zero-inside-requires c κs =
       s .pre .0,
       omega (arith, s .pre .2, small, g .invariant-group .ensures),
       omega (arith, c .invariant-count .ensures, few-limits t (invariantGroup l) (invariantCount t l) formed),
-      λ i h. rw (g .invariant-group .ensures) (limits-fit t (invariantGroup l) (invariantCount t l) formed i (omega (arith, c .invariant-count .ensures, h))),
+      λ i h. rw (g .invariant-group .ensures) (limits-fit t (invariantGroup l) (invariantCount t l) formed i
+      (omega (arith, c .invariant-count .ensures, h))),
     )
 
 returns-2 : tie.Need-returns-2

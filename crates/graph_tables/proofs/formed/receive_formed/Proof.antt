@@ -15,7 +15,8 @@ unfolding receiveFormed
 returns-2 c =
     let n = c .before in
     let a = n .before in
-    and-yes (eq-eqb _ _ (rw (a .before .reset-count .ensures) at (a .if1 .left))) (and-no _ (lt-leb _ _ (rw (n .effect-count .ensures) at (c .if2 .taken))))
+    and-yes (eq-eqb _ _ (rw (a .before .reset-count .ensures) at (a .if1 .left)))
+    (and-no _ (lt-leb _ _ (rw (n .effect-count .ensures) at (c .if2 .taken))))
 
 returns-3 : tie.Need-returns-3
 unfolding receiveFormed
@@ -24,7 +25,8 @@ returns-3 c =
     let n = b .before in
     let a = n .before in
     and-yes (eq-eqb _ _ (rw (a .before .reset-count .ensures) at (a .if1 .left)))
-    (and-yes (le-leb _ _ (rw (n .effect-count .ensures) at (b .if2 .left))) (rw (n .effect-count .ensures) at (c .all-targets-formed .ensures)))
+    (and-yes (le-leb _ _ (rw (n .effect-count .ensures) at (b .if2 .left)))
+    (rw (n .effect-count .ensures) at (c .all-targets-formed .ensures)))
 
 pub receive-formed-spec : {M : Type 1} → statement M
 receive-formed-spec =

@@ -14,7 +14,8 @@ returns-2 : tie.Need-returns-2
 unfolding resetFormed
 returns-2 c =
     let k = c .before .before in
-    and-yes (lt-ltb _ _ (rw (k .clock-count .ensures, k .before .reset-at .ensures) at (c .before .if1 .left))) (rw (c .reset-before .ensures, k .before .reset-at .ensures))
+    and-yes (lt-ltb _ _ (rw (k .clock-count .ensures, k .before .reset-at .ensures) at (c .before .if1 .left)))
+    (rw (c .reset-before .ensures, k .before .reset-at .ensures))
 
 pub reset-formed-spec : {M : Type 1} → statement M
 reset-formed-spec =

@@ -12,7 +12,10 @@ returns c = and-no _ (lt-leb _ _ (rw (c .before .reset-count .ensures) at (c .if
 
 returns-2 : tie.Need-returns-2
 unfolding resetsFormed
-returns-2 c = let n = c .before .before in and-yes (le-leb _ _ (rw (n .reset-count .ensures) at (c .before .if1 .left))) (rw (n .reset-count .ensures) at (c .all-resets-formed .ensures))
+returns-2 c =
+    let n = c .before .before in
+    and-yes (le-leb _ _ (rw (n .reset-count .ensures) at (c .before .if1 .left)))
+    (rw (n .reset-count .ensures) at (c .all-resets-formed .ensures))
 
 pub resets-formed-spec : {M : Type 1} → statement M
 resets-formed-spec =

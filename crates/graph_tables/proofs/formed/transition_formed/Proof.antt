@@ -2,6 +2,7 @@ use borrow.Author.Tests.{le-leb, lt-leb}
 use Rattle.laws.proofs.BelowLaws.{and-yes, and-no}
 use Rattle.laws.proofs.Tests.{held, failed}
 use Rattle.graph_tables.specs.Formed.{transitionFormed}
+use Rattle.graph_tables.proofs.FormedLaws.{no-limits}
 use Prim.Native.Nat.{_-_}
 use borrow.Author.Needs.{needs}
 use Rattle.graph_tables.proofs.formed.transition_formed.Statement.{statement}
@@ -45,6 +46,21 @@ returns-4 c =
     and-yes (rw (k .before .key-of .ensures) at (held (k .key-formed .ensures) (a .if1 .left)))
     (and-yes (le-leb _ _ (rw (b .key-before .ensures, k .before .key-of .ensures) at (e .if2 .left)))
     (and-yes (held (g .guard-formed .ensures) (h .if3 .left))
+    (no-limits _ _ _ (rw (n .limit-count .ensures) at (c .if4 .taken)))))
+
+returns-5 : tie.Need-returns-5
+unfolding transitionFormed
+returns-5 c =
+    let n = c .before .before in
+    let h = n .before in
+    let g = h .before in
+    let e = g .before in
+    let b = e .before in
+    let a = b .before in
+    let k = a .before in
+    and-yes (rw (k .before .key-of .ensures) at (held (k .key-formed .ensures) (a .if1 .left)))
+    (and-yes (le-leb _ _ (rw (b .key-before .ensures, k .before .key-of .ensures) at (e .if2 .left)))
+    (and-yes (held (g .guard-formed .ensures) (h .if3 .left))
     (rw (n .limit-count .ensures) at (c .limits-formed .ensures))))
 
 pub transition-formed-spec : {M : Type 1} → statement M
@@ -59,5 +75,6 @@ transition-formed-spec =
     (λ c κs. search needs)
     returns-3
     (λ c κs. search needs)
+    returns-4
     (λ c κs. search needs)
-    returns-4)
+    returns-5)

@@ -11,15 +11,24 @@ use Rattle.graph_tables.proofs.formed.variable_formed.Tie as tie
 
 returns : tie.Need-returns
 unfolding variableFormed
-returns c = let v = c .before in rw (eq-eqb _ _ (rw (v .before .kind-at .ensures) at (c .if1 .taken))) (ap (λ (n : ℕ). ltb n 2) (v .value-at .ensures))
+returns c =
+    let v = c .before in
+    rw (eq-eqb _ _ (rw (v .before .kind-at .ensures) at (c .if1 .taken))) (ap (λ (n : ℕ). ltb n 2) (v .value-at .ensures))
 
 returns-2 : tie.Need-returns-2
 unfolding variableFormed
-returns-2 c = let v = c .before .before in rw (ne-eqb _ _ (rw (v .before .kind-at .ensures) at (c .before .if1 .left))) (and-no _ (ne-eqb _ _ (rw (v .before .kind-at .ensures) at (c .if2 .taken))))
+returns-2 c =
+    let v = c .before .before in
+    rw (ne-eqb _ _ (rw (v .before .kind-at .ensures) at (c .before .if1 .left))) (and-no _
+    (ne-eqb _ _ (rw (v .before .kind-at .ensures) at (c .if2 .taken))))
 
 returns-3 : tie.Need-returns-3
 unfolding variableFormed
-returns-3 c = let v = c .before .before in rw (ne-eqb _ _ (rw (v .before .kind-at .ensures) at (c .before .if1 .left))) (and-yes (eq-eqb _ _ (rw (v .before .kind-at .ensures) at (c .if2 .left))) (ap (λ (n : ℕ). ltb n word32) (v .value-at .ensures)))
+returns-3 c =
+    let v = c .before .before in
+    rw (ne-eqb _ _
+    (rw (v .before .kind-at .ensures) at (c .before .if1 .left))) (and-yes (eq-eqb _ _ (rw (v .before .kind-at .ensures) at (c .if2 .left)))
+    (ap (λ (n : ℕ). ltb n word32) (v .value-at .ensures)))
 
 pub variable-formed-spec : {M : Type 1} → statement M
 variable-formed-spec =

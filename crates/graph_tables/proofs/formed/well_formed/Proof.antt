@@ -14,7 +14,8 @@ returns c = and-no _ (ne-eqb _ _ (c .if1 .taken))
 
 returns-2 : tie.Need-returns-2
 unfolding wellFormed
-returns-2 c = let n = c .before in and-yes (eq-eqb _ _ (n .before .if1 .left)) (and-no _ (failed (n .counts-formed .ensures) (c .if2 .taken)))
+returns-2 c =
+    let n = c .before in and-yes (eq-eqb _ _ (n .before .if1 .left)) (and-no _ (failed (n .counts-formed .ensures) (c .if2 .taken)))
 
 returns-3 : tie.Need-returns-3
 unfolding wellFormed
@@ -22,7 +23,8 @@ returns-3 c =
     let d = c .before in
     let b = d .before in
     let n = b .before in
-    and-yes (eq-eqb _ _ (n .before .if1 .left)) (and-yes (held (n .counts-formed .ensures) (b .if2 .left)) (and-no _ (failed (d .started .ensures) (c .if3 .taken))))
+    and-yes (eq-eqb _ _ (n .before .if1 .left))
+    (and-yes (held (n .counts-formed .ensures) (b .if2 .left)) (and-no _ (failed (d .started .ensures) (c .if3 .taken))))
 
 parts-formed-requires : tie.Need-parts-formed-requires
 parts-formed-requires c κs =
@@ -38,7 +40,8 @@ returns-4 c =
     let b = d .before in
     let n = b .before in
     and-yes (eq-eqb _ _ (n .before .if1 .left))
-    (and-yes (held (n .counts-formed .ensures) (b .if2 .left)) (and-yes (held (d .started .ensures) (e .if3 .left)) (c .parts-formed .ensures)))
+    (and-yes (held (n .counts-formed .ensures) (b .if2 .left))
+    (and-yes (held (d .started .ensures) (e .if3 .left)) (c .parts-formed .ensures)))
 
 pub well-formed-spec : {M : Type 1} → statement M
 well-formed-spec =

@@ -22,7 +22,8 @@ returns-5 c = nothing ∙ none-second _ _ _ (c .before .before .before .if1 .lef
 returns-6 : tie.Need-returns-6
 returns-6 c =
     c .booleans .ensures
-    ∙ both-booleans _ _ _ (c .before .before .before .before .if1 .left) (c .before .before .if4 .left) (c .before .before .before .if3 .left) (c .before .if5 .left)
+    ∙ both-booleans _ _ _ (c .before .before .before .before .if1 .left) (c .before .before .if4 .left)
+    (c .before .before .before .if3 .left) (c .before .if5 .left)
 
 pub binary-spec : {M : Type 1} → statement M
 binary-spec = tie.close (tie.spec (λ c κs. search needs) returns returns-2 returns-3 returns-4 returns-5 (λ c κs. search needs) returns-6)

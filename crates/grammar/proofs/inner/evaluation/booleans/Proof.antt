@@ -24,4 +24,5 @@ returns-4 : tie.Need-returns-4
 returns-4 c = nothing ∙ no-booleans _ _ (c .before .args .w) (c .match .rest)
 
 pub booleans-spec : {M : Type 1} → statement M
-booleans-spec = tie.close (tie.spec (λ c κs. search needs) (λ c κs. search needs) (λ c κs. search needs) returns returns-2 returns-3 returns-4)
+booleans-spec =
+    tie.close (tie.spec (λ c κs. search needs) (λ c κs. search needs) (λ c κs. search needs) returns returns-2 returns-3 returns-4)

@@ -6,7 +6,8 @@ use Rattle.grammar.proofs.ItemLaws.{slot-small}
 use Rattle.grammar.proofs.OperationLaws.{no-variables}
 use Rattle.grammar.proofs.EvaluationLaws.{evaluated}
 use Rattle.grammar.proofs.DrawLaws.{left-done}
-use Rattle.grammar.proofs.TurnLaws.{small, some, none-taken, drawn, looked-up, constant, halved, undrawn, Going, stuck-here, gives-value, too-few, too-deep, goes-on}
+use Rattle.grammar.proofs.TurnLaws.{small, some, none-taken, drawn, looked-up, constant, halved, undrawn, Going, stuck-here}
+use Rattle.grammar.proofs.TurnLaws.{gives-value, too-few, too-deep, goes-on}
 use mathlib.Core.Bool.{true, false, cond}
 use lib.Dec.{ltb}
 use Rattle.grammar.specs.Inner.{operatesOf}
@@ -29,10 +30,14 @@ loop-holds : tie.Need-loop-holds Inv-loop μ-loop
 loop-holds c = record { within = search needs; shallow = search needs; slots = refl; same-run = refl; same-depth = refl; same-left = refl }
 
 -- what the test of the word says
-operation : (c : tie.Then1 Inv-loop μ-loop) → operatesOf (getD (c .before .before .before .before .before .before .before .args .items .now) (c .before .before .before .before .loop .at) 0) ≡ true
+operation : (c : tie.Then1 Inv-loop μ-loop)
+    → operatesOf (getD (c .before .before .before .before .before .before .before .args .items .now)
+    (c .before .before .before .before .loop .at) 0) ≡ true
 operation c = sym (c .before .operates .ensures) ∙ c .if1 .taken
 
-other : (c : tie.Else1 Inv-loop μ-loop) → operatesOf (getD (c .before .before .before .before .before .before .before .args .items .now) (c .before .before .before .before .loop .at) 0) ≡ false
+other : (c : tie.Else1 Inv-loop μ-loop)
+    → operatesOf (getD (c .before .before .before .before .before .before .before .args .items .now)
+    (c .before .before .before .before .loop .at) 0) ≡ false
 other c = sym (c .before .operates .ensures) ∙ c .if1 .left
 
 returns : tie.Need-returns Inv-loop μ-loop
@@ -42,7 +47,9 @@ returns c =
     let items = s .args .items .now in
     let vars = slotsOf (s .args .vars .now) in
     let t = c .before .before in
-    c .no-value .ensures ∙ evaluated vars (s .args .word) items (too-few (l .loop .inv) (omega arith) (omega (arith, t .takes .ensures, c .before .if2 .taken))) refl
+    c .no-value .ensures
+    ∙ evaluated vars (s .args .word) items
+    (too-few (l .loop .inv) (omega arith) (omega (arith, t .takes .ensures, c .before .if2 .taken))) refl
 
 array-read-b : tie.Need-array-read-b Inv-loop μ-loop
 array-read-b c =
@@ -64,7 +71,8 @@ loop-again c =
     let w = getD items (l .loop .at) 0 in
     let t = c .before .before in
     let e = operation (t .before) in
-    goes-on (l .loop .inv) (omega arith) (l .loop .depth - t .takes .result) (t .takes .result) (c .operation .result) (l .loop .left) (omega (arith, c .before .if2 .left)) (t .takes .ensures)
+    goes-on (l .loop .inv) (omega arith) (l .loop .depth - t .takes .result) (t .takes .result) (c .operation .result) (l .loop .left)
+    (omega (arith, c .before .if2 .left)) (t .takes .ensures)
     (omega (arith, t .takes .ensures, some w e, l .loop .inv .shallow)) (undrawn (l .loop .left) w (λ z. omega (arith, small w e)))
     (c .operation .ensures ∙ no-variables vars (l .loop .left) _ _ w (small w e))
 
@@ -75,7 +83,9 @@ returns-2 c =
     let items = s .args .items .now in
     let vars = slotsOf (s .args .vars .now) in
     let w = getD items (l .loop .at) 0 in
-    c .no-value2 .ensures ∙ evaluated vars (s .args .word) items (too-deep (l .loop .inv) (omega arith) (none-taken w (other (c .before .before))) (c .before .if3 .taken)) refl
+    c .no-value2 .ensures
+    ∙ evaluated vars (s .args .word) items
+    (too-deep (l .loop .inv) (omega arith) (none-taken w (other (c .before .before))) (c .before .if3 .taken)) refl
 
 -- the slot that is read is one of 16
 place : (c : tie.After-slot Inv-loop μ-loop) → c .slot .result < 16
@@ -93,8 +103,12 @@ loop-again-2 c =
     let i = c .before .before .before .before in
     let q = c .before .before .before in
     let h : 2 * q .slot .result + 1 < length (s .args .vars .now) = omega (arith, place q) in
-    goes-on (l .loop .inv) (omega arith) (l .loop .depth) 0 (c .variable .result) (l .loop .left) (omega arith) (sym (none-taken w (other (i .before .before)))) (i .before .if3 .left) (undrawn (l .loop .left) w (λ z. omega (arith, i .if4 .taken)))
-    (c .variable .ensures ∙ ap (λ (x : Val). cond (ltb (w / 256) 16) (Known x) NoValue) (sym (slots-at (s .args .vars .now) (q .slot .result) h)) ∙ ap (λ (n : ℕ). cond (ltb (w / 256) 16) (Known (getD vars n blank .value)) NoValue) (q .slot .ensures) ∙ looked-up vars (l .loop .left) _ _ w (i .if4 .taken))
+    goes-on (l .loop .inv) (omega arith) (l .loop .depth) 0 (c .variable .result) (l .loop .left) (omega arith)
+    (sym (none-taken w (other (i .before .before)))) (i .before .if3 .left) (undrawn (l .loop .left) w (λ z. omega (arith, i .if4 .taken)))
+    (c .variable .ensures
+    ∙ ap (λ (x : Val). cond (ltb (w / 256) 16) (Known x) NoValue) (sym (slots-at (s .args .vars .now) (q .slot .result) h))
+    ∙ ap (λ (n : ℕ). cond (ltb (w / 256) 16) (Known (getD vars n blank .value)) NoValue) (q .slot .ensures)
+    ∙ looked-up vars (l .loop .left) _ _ w (i .if4 .taken))
 
 loop-again-3 : tie.Need-loop-again-3 Inv-loop μ-loop
 loop-again-3 c =
@@ -105,7 +119,8 @@ loop-again-3 c =
     let w = getD items (l .loop .at) 0 in
     let i = c .before .before .before in
     let e = c .before .if5 .taken in
-    goes-on (l .loop .inv) (omega arith) (l .loop .depth) 0 (c .boolean .result) (l .loop .left / 2) (omega arith) (sym (none-taken w (other (i .before)))) (i .if3 .left) (halved (l .loop .left) w e)
+    goes-on (l .loop .inv) (omega arith) (l .loop .depth) 0 (c .boolean .result) (l .loop .left / 2) (omega arith)
+    (sym (none-taken w (other (i .before)))) (i .if3 .left) (halved (l .loop .left) w e)
     (c .boolean .ensures ∙ drawn vars (l .loop .left) _ _ w e)
 
 loop-again-4 : tie.Need-loop-again-4 Inv-loop μ-loop
@@ -117,7 +132,8 @@ loop-again-4 c =
     let w = getD items (l .loop .at) 0 in
     let i = c .before .before .before in
     let e = other (i .before) in
-    goes-on (l .loop .inv) (omega arith) (l .loop .depth) 0 (c .constant .result) (l .loop .left) (omega arith) (sym (none-taken w e)) (i .if3 .left) (undrawn (l .loop .left) w (c .before .if5 .left))
+    goes-on (l .loop .inv) (omega arith) (l .loop .depth) 0 (c .constant .result) (l .loop .left) (omega arith) (sym (none-taken w e))
+    (i .if3 .left) (undrawn (l .loop .left) w (c .before .if5 .left))
     (c .constant .ensures _ ∙ constant vars (l .loop .left) _ _ w e (c .before .if5 .left))
 
 returns-3 : tie.Need-returns-3 Inv-loop μ-loop
@@ -134,7 +150,8 @@ returns-4 c =
     let s = l .before .before .before in
     let items = s .args .items .now in
     let vars = slotsOf (s .args .vars .now) in
-    evaluated vars (s .args .word) items (c .held .ensures ∙ gives-value (l .loop .inv) (omega arith) (c .before .if6 .left)) (sym (left-done items (l .loop .at) (l .loop .left) (omega arith)) ∙ l .loop .inv .same-left)
+    evaluated vars (s .args .word) items (c .held .ensures ∙ gives-value (l .loop .inv) (omega arith) (c .before .if6 .left))
+    (sym (left-done items (l .loop .at) (l .loop .left) (omega arith)) ∙ l .loop .inv .same-left)
 
 pub evaluate-on-spec : {M : Type 1} → statement M
 evaluate-on-spec =

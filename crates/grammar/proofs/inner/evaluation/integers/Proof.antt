@@ -20,7 +20,9 @@ returns c = rw (c .before .match .keys1) (c .within .ensures ∙ ap fitted (sum 
 
 returns-2 : tie.Need-returns-2
 unfolding itemOf valuesOn
-returns-2 c = rw (c .before .match .keys2) (c .within2 .ensures ∙ ap fitted (difference (c .before .before .args .x) (c .before .before .args .y) (omega arith)))
+returns-2 c =
+    rw (c .before .match .keys2) (c .within2 .ensures
+    ∙ ap fitted (difference (c .before .before .args .x) (c .before .before .args .y) (omega arith)))
 
 returns-3 : tie.Need-returns-3
 unfolding itemOf valuesOn
@@ -29,7 +31,8 @@ returns-3 c =
     let b = c .before .whole2 .result in
     let ea : toZ w32 (ofZ w32 a) ≡ a = search needs in
     let eb : toZ w32 (ofZ w32 b) ≡ b = search needs in
-    rw (c .before .before .before .match .keys3) (rw (ea, eb, c .before .before .whole .ensures, c .before .whole2 .ensures) at (c .product .ensures))
+    rw (c .before .before .before .match .keys3) (rw (ea, eb, c .before .before .whole .ensures,
+    c .before .whole2 .ensures) at (c .product .ensures))
 
 returns-4 : tie.Need-returns-4
 unfolding itemOf valuesOn
@@ -38,7 +41,8 @@ returns-4 c =
     let b = c .before .whole4 .result in
     let ea : toZ w32 (ofZ w32 a) ≡ a = search needs in
     let eb : toZ w32 (ofZ w32 b) ≡ b = search needs in
-    rw (c .before .before .before .match .keys4) (rw (ea, eb, c .before .before .whole3 .ensures, c .before .whole4 .ensures) at (c .quotient .ensures))
+    rw (c .before .before .before .match .keys4) (rw (ea, eb, c .before .before .whole3 .ensures,
+    c .before .whole4 .ensures) at (c .quotient .ensures))
 
 returns-5 : tie.Need-returns-5
 unfolding itemOf valuesOn
@@ -47,19 +51,23 @@ returns-5 c =
     let b = c .before .whole6 .result in
     let ea : toZ w32 (ofZ w32 a) ≡ a = search needs in
     let eb : toZ w32 (ofZ w32 b) ≡ b = search needs in
-    rw (c .before .before .before .match .keys5) (rw (ea, eb, c .before .before .whole5 .ensures, c .before .whole6 .ensures) at (c .remainder .ensures))
+    rw (c .before .before .before .match .keys5) (rw (ea, eb, c .before .before .whole5 .ensures,
+    c .before .whole6 .ensures) at (c .remainder .ensures))
 
 returns-6 : tie.Need-returns-6
 unfolding itemOf valuesOn
-returns-6 c = rw (c .before .match .keys6) (c .boolean .ensures ∙ ap boolean (equal-as (c .before .before .args .x) (c .before .before .args .y)))
+returns-6 c =
+    rw (c .before .match .keys6) (c .boolean .ensures ∙ ap boolean (equal-as (c .before .before .args .x) (c .before .before .args .y)))
 
 returns-7 : tie.Need-returns-7
 unfolding itemOf valuesOn
-returns-7 c = rw (c .before .match .keys7) (c .boolean2 .ensures ∙ ap boolean (less-as (c .before .before .args .x) (c .before .before .args .y)))
+returns-7 c =
+    rw (c .before .match .keys7) (c .boolean2 .ensures ∙ ap boolean (less-as (c .before .before .args .x) (c .before .before .args .y)))
 
 returns-8 : tie.Need-returns-8
 unfolding itemOf valuesOn
-returns-8 c = rw (c .before .match .keys8) (c .boolean3 .ensures ∙ ap boolean (most-as (c .before .before .args .x) (c .before .before .args .y)))
+returns-8 c =
+    rw (c .before .match .keys8) (c .boolean3 .ensures ∙ ap boolean (most-as (c .before .before .args .x) (c .before .before .args .y)))
 
 returns-9 : tie.Need-returns-9
 returns-9 c = nothing ∙ no-integers _ _ (c .before .args .w) (c .match .rest)

@@ -11,7 +11,9 @@ mul-in-range : tie.Need-mul-in-range
 mul-in-range c = op-fits _*ℤ_ (c .fits .a) (c .fits .b) (product-fits (c .fits .a) (c .fits .b))
 
 returns : tie.Need-returns
-returns c = c .in-range .ensures ∙ ap fitted (op-is _*ℤ_ (c .before .fits .a) (c .before .fits .b) (product-fits (c .before .fits .a) (c .before .fits .b)))
+returns c =
+    c .in-range .ensures
+    ∙ ap fitted (op-is _*ℤ_ (c .before .fits .a) (c .before .fits .b) (product-fits (c .before .fits .a) (c .before .fits .b)))
 
 pub product-spec : {M : Type 1} → statement M
 product-spec = tie.close (tie.spec (λ c. cast-fits (c .fits .a)) (λ c. cast-fits (c .fits .b)) mul-in-range (λ c κs. search needs) returns)

@@ -10,7 +10,8 @@ use Rattle.grammar.proofs.inner.slots.put.Tie as tie
 
 returns : tie.Need-returns
 returns c =
-    let k : c .before .word .result ≡ kindIn (c .before .before .before .before .args .x) = c .before .word .ensures ∙ ap kindWord (c .before .before .kind .ensures) in
+    let k : c .before .word .result ≡ kindIn (c .before .before .before .before .args .x) =
+    c .before .word .ensures ∙ ap kindWord (c .before .before .kind .ensures) in
     (cc (c .payload-of .ensures .0), c .payload-of .ensures .1)
 
 pub put-spec : {M : Type 1} → statement M

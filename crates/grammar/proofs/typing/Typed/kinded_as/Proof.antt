@@ -9,7 +9,8 @@ returns : tie.Need-returns
 returns c = rw (c .before .before .self .given .1) (ap (λ (n : ℕ). eqb n (c .before .before .before .before .args .w)) (c .word .ensures))
 
 returns-4 : tie.Need-returns-4
-returns-4 c = rw (c .before .before .self2 .given .1) (ap (λ (n : ℕ). eqb n (c .before .before .before .before .args .w)) (c .word2 .ensures))
+returns-4 c =
+    rw (c .before .before .self2 .given .1) (ap (λ (n : ℕ). eqb n (c .before .before .before .before .args .w)) (c .word2 .ensures))
 
 pub kinded-as-spec : {M : Type 1} → statement M
 kinded-as-spec =

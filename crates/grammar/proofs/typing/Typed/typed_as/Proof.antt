@@ -11,4 +11,5 @@ returns c = rw (c .before .before .self .given .1) (ap (λ (n : ℕ). eqb n (c .
 pub typed-as-spec : {M : Type 1} → statement M
 typed-as-spec =
     tie.close
-    (tie.spec (λ c. search needs) (λ c κs. search needs) (λ c. search needs) (λ c. search needs) (λ c. search needs) returns (λ c. search needs) (λ c. search needs) (λ c. search needs))
+    (tie.spec (λ c. search needs) (λ c κs. search needs) (λ c. search needs) (λ c. search needs) (λ c. search needs) returns
+    (λ c. search needs) (λ c. search needs) (λ c. search needs))

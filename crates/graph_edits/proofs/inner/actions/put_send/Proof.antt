@@ -11,7 +11,8 @@ put-action-requires c κs =
     let n = r .before .before in
     let s = n .before .before .before .before .before .before .before in
     let m = chosen (s .args .w .now) (s .args .x .now) (s .args .y .now) (s .args .z .now) in
-    let k = expressions-kept (s .args .t .now) (n .action-count .result) m (s .args .count) (s .pre .0) (omega arith) (s .pre .2) (s .pre .3) in
+    let k =
+    expressions-kept (s .args .t .now) (n .action-count .result) m (s .args .count) (s .pre .0) (omega arith) (s .pre .2) (s .pre .3) in
     (omega arith, rw (r .put-expressions .ensures, k .1) (s .pre .1))
 
 pub put-send-spec : {M : Type 1} → statement M

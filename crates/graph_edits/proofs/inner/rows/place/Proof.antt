@@ -11,7 +11,8 @@ use Rattle.graph_edits.proofs.inner.rows.place.Statement.{statement}
 use Rattle.graph_edits.proofs.inner.rows.place.Tie as tie
 
 abbrev Inv-loop : tie.InvT-loop
-Inv-loop t base w n k at₀ i₀ at i = (i ≤ n) × ((at ≡ base + w * i) × (placeOf (numberAt t base w) n k ≡ placeFrom (numberAt t base w) k i (n - i)))
+Inv-loop t base w n k at₀ i₀ at i =
+    (i ≤ n) × ((at ≡ base + w * i) × (placeOf (numberAt t base w) n k ≡ placeFrom (numberAt t base w) k i (n - i)))
 
 abbrev μ-loop : tie.MeasureT-loop
 μ-loop t base w n k at₀ i₀ at i = n - i
@@ -40,7 +41,8 @@ returns c =
     let l = c .before .before .before in
     let a = l .before .args in
     let e = l .loop .inv .1 .0 in (
-      sym (l .loop .inv .1 .1 ∙ place-here (numberAt (a .t .now) (a .base) (a .w)) (a .k) (l .loop .i) (a .n) (omega arith) (rw e at (c .if1 .taken))),
+      sym (l .loop .inv .1 .1
+      ∙ place-here (numberAt (a .t .now) (a .base) (a .w)) (a .k) (l .loop .i) (a .n) (omega arith) (rw e at (c .if1 .taken))),
       l .loop .inv .0,
     )
 
@@ -58,7 +60,8 @@ loop-again c =
     let e = l .loop .inv .1 .0 in
     let more : a .w * (l .loop .i + 1) ≡ a .w * l .loop .i + a .w = rw (add-one (l .loop .i)) (mul-suc (a .w) (l .loop .i)) in (
       omega arith,
-      (omega (arith, more), l .loop .inv .1 .1 ∙ place-next (numberAt (a .t .now) (a .base) (a .w)) (a .k) (l .loop .i) (a .n) (omega arith) (rw e at (c .if1 .left))),
+      (omega (arith, more), l .loop .inv .1 .1
+      ∙ place-next (numberAt (a .t .now) (a .base) (a .w)) (a .k) (l .loop .i) (a .n) (omega arith) (rw e at (c .if1 .left))),
     )
 
 returns-2 : tie.Need-returns-2 Inv-loop μ-loop
@@ -69,4 +72,5 @@ returns-2 c =
 
 pub place-spec : {M : Type 1} → statement M
 place-spec =
-    tie.close (tie.spec Inv-loop μ-loop loop-holds mul-if1 shared-slice-read-if1 returns add-at (λ c. search needs) (λ c. search needs) loop-again returns-2)
+    tie.close (tie.spec Inv-loop μ-loop loop-holds mul-if1 shared-slice-read-if1 returns add-at (λ c. search needs)
+    (λ c. search needs) loop-again returns-2)

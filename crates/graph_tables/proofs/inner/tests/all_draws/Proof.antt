@@ -19,7 +19,8 @@ loop-holds : tie.Need-loop-holds Inv-loop μ-loop
 loop-holds c = (search needs, search needs, sym (sum-none _))
 
 effect-draws-requires : tie.Need-effect-draws-requires Inv-loop μ-loop
-effect-draws-requires c κs = let s = c .before .before .before in (s .pre .0, s .pre .1, omega (arith, s .pre .2), s .pre .3 _ (omega arith))
+effect-draws-requires c κs =
+    let s = c .before .before .before in (s .pre .0, s .pre .1, omega (arith, s .pre .2), s .pre .3 _ (omega arith))
 
 add-sum : tie.Need-add-sum Inv-loop μ-loop
 add-sum c = omega (arith, c .effect-draws .ensures .1, c .before .before .loop .inv .1, c .before .before .before .before .pre .2)
@@ -29,7 +30,9 @@ loop-again c =
     let l = c .before .before in (
       omega arith,
       omega (arith, c .effect-draws .ensures .1, l .loop .inv .1),
-      ap (λ (n : ℕ). n + c .effect-draws .result) (l .loop .inv .2) ∙ ap (λ (n : ℕ). sumBelow (l .loop .e) (effectDraws (l .before .before .args .t .now) (l .before .before .args .a)) + n) (c .effect-draws .ensures .0) ∙ sym (sum-more _ _),
+      ap (λ (n : ℕ). n + c .effect-draws .result) (l .loop .inv .2)
+      ∙ ap (λ (n : ℕ). sumBelow (l .loop .e) (effectDraws (l .before .before .args .t .now) (l .before .before .args .a)) + n)
+      (c .effect-draws .ensures .0) ∙ sym (sum-more _ _),
     )
 
 returns : tie.Need-returns Inv-loop μ-loop

@@ -1,37 +1,64 @@
-use mathlib.Core.Path.{ap, _∙_}
-use borrow.Author.Needs.{needs}
+use Prim.Native.Nat.{ℕ, zero, suc, _+_, _-_, _*_, _/_, _%_, _≤_, _<_}
+use mathlib.Core.Path.{_≡_, refl, sym, ap, _∙_}
 use native.Mathlib.Omega.{arith}
-use Rattle.laws.proofs.Ladder.{passed, stopped}
-use Rattle.laws.proofs.Tests.{held, failed}
-use mathlib.Core.List.{List}
-use Rattle.grammar.specs.declared.values.Slot.{Slot}
-use Rattle.program_graph.specs.Running.{movedTo}
-use Rattle.program_graph.specs.Messaging.{refusedReceive, acceptedReceive, heardOf}
-use Rattle.program_graph.proofs.RunLaws.{few-processes}
+use lib.ListN.{length, getD, set, length-set}
+use borrow.Author.Needs.{needs}
+use borrow.Author.Tests.{eq-eqb, ne-eqb}
+use Rattle.laws.proofs.Tests.{held, failed, denied, granted}
+use Rattle.graph_tables.specs.Refusals.{refusal}
+use Rattle.graph_tables.specs.declared.answers.Done.the-variants as Done
+use Rattle.program_graph.specs.Messaging.{heardOf}
+use Rattle.program_graph.specs.Inner.{DidReceive}
+use Rattle.program_graph.proofs.LeaveLaws.{rung-stopped, rung-passed, leaves-same, few-places, taken-moved}
 use Rattle.program_graph.proofs.inner.messages.hear.Statement.{statement}
 use Rattle.program_graph.proofs.inner.messages.hear.Tie as tie
+use Rattle.program_graph.proofs.inner.messages.hear.Reads as reads
+use Rattle.program_graph.proofs.inner.messages.hear.Lts as lts
+use Rattle.program_graph.proofs.inner.messages.take_in.Reads as take-in-reads
+use Rattle.program_graph.proofs.inner.steps.move_to.Reads as move-to-reads
+use Rattle.run_steps.proofs.inner.messages.message_fits.Reads as message-fits-reads
+
+message-fits-requires : tie.Need-message-fits-requires
+message-fits-requires c κs = search needs
 
 returns : tie.Need-returns
 unfolding heardOf
 returns c =
-    let r = c .before .before in
-    let run = r .before .before .before .args .run in
-    c .refused-receive .ensures ∙ stopped (refusedReceive 5 run) _ (failed (r .message-fits .ensures) (c .before .if1 .taken))
+    let k = c .before in
+    let s = k .before .before .before .before in
+    rung-stopped (DidReceive (s .args .t .now) (s .args .r .now) (Done.Refused (refusal 5)) (s .args .r .now)) _ _ (failed (k .message-fits .ensures) (c .if1 .taken)) (refl, leaves-same (s .args .t .now) (s .args .r .now) (s .pre .1))
 
-moved-to-requires : tie.Need-moved-to-requires
-moved-to-requires c κs =
-    let p = c .before .before .before .before .before .before .before .pre in
-    (few-processes _ _ (p .0) (p .1), omega (arith, p .2))
+take-in-requires : tie.Need-take-in-requires
+take-in-requires c κs = search needs
+
+move-to-requires : tie.Need-move-to-requires
+move-to-requires c κs =
+    let i = c .before .before .before in
+    let s = i .before .before .before .before .before .before .before in
+    (i .take-in .ensures .0 .words, few-places (s .args .t .now) (s .args .r .now) (s .pre .0) (s .pre .1) _ (s .pre .2))
+
+same-length : tie.Need-same-length
+same-length c = search needs
 
 returns-2 : tie.Need-returns-2
 unfolding heardOf
 returns-2 c =
-    let k = c .before in
-    let e = k .before .before .before in
-    let r = e .before in
-    let s = r .before .before .before .args in
-    passed (refusedReceive 5 (s .run)) (held (r .message-fits .ensures) (e .if1 .left))
-    (ap acceptedReceive (c .moved-to .ensures ∙ ap (λ (vars : List Slot). movedTo (s .run) (s .posts .now) vars (s .run .times)) (k .taken .ensures)))
+    let m = c .before .before in
+    let i = m .before .before .before .before in
+    let l = i .before .before in
+    let k = l .before in
+    let s = k .before .before .before .before in
+    rung-passed (DidReceive (s .args .t .now) (s .args .r .now) Done.Accepted (m .move-to .last .0)) _ _ (held (k .message-fits .ensures) (l .if1 .left))
+    (refl, taken-moved (s .args .t .now) (s .args .r .now) (s .args .posts .now) _ _ _ (s .pre .1) (s .pre .2) (i .take-in .ensures .0) (i .take-in .ensures .1)
+    (m .move-to .ensures))
 
 pub hear-spec : {M : Type 1} → statement M
-hear-spec = tie.close (tie.spec (λ c κs. search needs) (λ c κs. search needs) returns (λ c κs. search needs) moved-to-requires returns-2)
+hear-spec =
+    tie.close
+    (tie.spec
+    message-fits-requires
+    returns
+    take-in-requires
+    move-to-requires
+    same-length
+    returns-2)

@@ -1,49 +1,75 @@
-use mathlib.Core.Path.{_∙_}
+use Prim.Native.Nat.{ℕ, zero, suc, _+_, _-_, _*_, _/_, _%_, _≤_, _<_}
+use mathlib.Core.Path.{_≡_, refl, sym, ap, _∙_}
+use native.Mathlib.Omega.{arith}
+use lib.ListN.{length, getD, set, length-set}
 use borrow.Author.Needs.{needs}
-use borrow.Author.Tests.{lt-ltb, le-ltb, eq-eqb, ne-eqb}
-use Rattle.laws.proofs.Ladder.{passed, stopped}
-use Rattle.program_graph.specs.Running.{refused, actedOf}
+use borrow.Author.Tests.{eq-eqb, ne-eqb, le-ltb, lt-ltb}
+use Rattle.laws.proofs.Tests.{held, failed}
+use Rattle.graph_tables.specs.Refusals.{refusal}
+use Rattle.graph_tables.specs.declared.answers.Done.the-variants as Done
+use Rattle.program_graph.specs.Running.{actedOf}
+use Rattle.program_graph.specs.Inner.{DidStep}
+use Rattle.program_graph.proofs.LeaveLaws.{rung-stopped, rung-passed, leaves-same}
 use Rattle.program_graph.proofs.inner.steps.acted.Statement.{statement}
 use Rattle.program_graph.proofs.inner.steps.acted.Tie as tie
+use Rattle.program_graph.proofs.inner.steps.acted.Reads as reads
+use Rattle.program_graph.proofs.inner.steps.acted.Lts as lts
+use Rattle.graph_tables.proofs.inner.action_count.Reads as action-count-reads
+use Rattle.graph_tables.proofs.inner.action_kind.Reads as action-kind-reads
+use Rattle.program_graph.proofs.inner.steps.plain.Reads as plain-reads
+
+action-count-requires : tie.Need-action-count-requires
+action-count-requires c κs = search needs
 
 returns : tie.Need-returns
 unfolding actedOf
 returns c =
-    let n = c .before .before in
-    let run = n .before .before .before .args .run in
-    c .refused .ensures ∙ stopped (refused 1 run) _ (le-ltb _ _ (rw (n .action-count .ensures) at (c .before .if1 .taken)))
+    let n = c .before in
+    let s = n .before .before .before .before in
+    rung-stopped (DidStep (s .args .t .now) (s .args .r .now) (Done.Refused (refusal 1)) (s .args .r .now)) _ _
+    (le-ltb _ _ (rw (n .action-count .ensures) at (c .if1 .taken))) (refl, leaves-same (s .args .t .now) (s .args .r .now) (s .pre .1))
+
+action-kind-requires : tie.Need-action-kind-requires
+action-kind-requires c κs = search needs
 
 returns-2 : tie.Need-returns-2
 unfolding actedOf
 returns-2 c =
-    let k = c .before .before in
+    let k = c .before in
     let b = k .before in
     let n = b .before in
-    let run = n .before .before .before .args .run in
-    c .refused2 .ensures
-    ∙ passed (refused 1 run) (lt-ltb _ _ (rw (n .action-count .ensures) at (b .if1 .left)))
-    (stopped (refused 13 run) _ (ne-eqb _ _ (rw (k .action-kind .ensures) at (c .before .if2 .taken))))
+    let s = n .before .before .before .before in
+    let did = DidStep (s .args .t .now) (s .args .r .now) (Done.Refused (refusal 13)) (s .args .r .now) in
+    rung-passed did _ _ (lt-ltb _ _ (rw (n .action-count .ensures) at (b .if1 .left)))
+    (rung-stopped did _ _ (ne-eqb _ _ (rw (k .action-kind .ensures) at (c .if2 .taken))) (refl, leaves-same (s .args .t .now) (s .args .r .now) (s .pre .1)))
+
+plain-requires : tie.Need-plain-requires
+plain-requires c κs = search needs
+
+same-length : tie.Need-same-length
+same-length c = search needs
 
 returns-3 : tie.Need-returns-3
 unfolding actedOf
 returns-3 c =
-    let d = c .before in
+    let p = c .before .before in
+    let d = p .before .before in
     let k = d .before in
     let b = k .before in
     let n = b .before in
-    let run = n .before .before .before .args .run in
-    passed (refused 1 run) (lt-ltb _ _ (rw (n .action-count .ensures) at (b .if1 .left)))
-    (passed (refused 13 run) (eq-eqb _ _ (rw (k .action-kind .ensures) at (d .if2 .left))) (c .plain .ensures))
+    let s = n .before .before .before .before in
+    let did = DidStep (s .args .t .now) (s .args .r .now) (p .plain .result) (p .plain .last .1 .0) in
+    rung-passed did _ _ (lt-ltb _ _ (rw (n .action-count .ensures) at (b .if1 .left)))
+    (rung-passed did _ _ (eq-eqb _ _ (rw (k .action-kind .ensures) at (d .if2 .left))) (p .plain .ensures))
 
 pub acted-spec : {M : Type 1} → statement M
 acted-spec =
     tie.close
     (tie.spec
-    (λ c κs. search needs)
-    (λ c κs. search needs)
+    action-count-requires
     returns
-    (λ c κs. search needs)
-    (λ c κs. search needs)
+    action-kind-requires
     returns-2
-    (λ c κs. search needs)
+    plain-requires
+    same-length
     returns-3)

@@ -1,32 +1,54 @@
-use mathlib.Core.Path.{ap, _∙_}
-use borrow.Author.Needs.{needs}
+use Prim.Native.Nat.{ℕ, zero, suc, _+_, _-_, _*_, _/_, _%_, _≤_, _<_}
+use mathlib.Core.Path.{_≡_, refl, sym, ap, _∙_}
 use native.Mathlib.Omega.{arith}
-use Rattle.laws.proofs.Ladder.{passed, stopped}
+use lib.ListN.{length, getD, set, length-set}
+use borrow.Author.Needs.{needs}
 use Rattle.laws.proofs.Tests.{held, failed}
-use Rattle.program_graph.specs.Running.{refused, accepted, autonomousOf}
-use Rattle.program_graph.proofs.RunLaws.{few-processes}
+use Rattle.graph_tables.specs.Refusals.{refusal}
+use Rattle.graph_tables.specs.declared.answers.Done.the-variants as Done
+use Rattle.program_graph.specs.Running.{autonomousOf}
+use Rattle.program_graph.specs.Inner.{DidStep}
+use Rattle.program_graph.proofs.LeaveLaws.{rung-stopped, rung-passed, few-places, leaves-same, leaves-moved}
+use Rattle.run_steps.proofs.VarLaws.{vars-same}
 use Rattle.program_graph.proofs.inner.steps.autonomous.Statement.{statement}
 use Rattle.program_graph.proofs.inner.steps.autonomous.Tie as tie
+use Rattle.program_graph.proofs.inner.steps.autonomous.Reads as reads
+use Rattle.program_graph.proofs.inner.steps.autonomous.Lts as lts
+use Rattle.program_graph.proofs.inner.steps.move_to.Reads as move-to-reads
+use Rattle.program_graph.proofs.inner.steps.ready_still.Reads as ready-still-reads
+
+ready-still-requires : tie.Need-ready-still-requires
+ready-still-requires c κs = search needs
+
+same-length : tie.Need-same-length
+same-length c = search needs
 
 returns : tie.Need-returns
 unfolding autonomousOf
 returns c =
-    let r = c .before .before in
-    let run = r .before .before .before .args .run in
-    c .refused .ensures ∙ stopped (refused 8 run) _ (failed (r .ready-still .ensures) (c .before .if1 .taken))
+    let k = c .before in
+    let s = k .before .before .before .before .before in
+    rung-stopped (DidStep (s .args .t .now) (s .args .r .now) (Done.Refused (refusal 8)) (s .args .r .now)) _ _
+    (failed (k .ready-still .ensures) (c .if1 .taken)) (refl, leaves-same (s .args .t .now) (s .args .r .now) (s .pre .1))
 
-moved-to-requires : tie.Need-moved-to-requires
-moved-to-requires c κs =
-    let p = c .before .before .before .before .before .before .pre in
-    (few-processes _ _ (p .0) (p .1), omega (arith, p .2))
+move-to-requires : tie.Need-move-to-requires
+move-to-requires c κs =
+    let s = c .before .before .before .before .before .before .before in
+    (s .pre .1 .words, few-places (s .args .t .now) (s .args .r .now) (s .pre .0) (s .pre .1) _ (s .pre .2))
+
+same-length-2 : tie.Need-same-length-2
+same-length-2 c = search needs
 
 returns-2 : tie.Need-returns-2
 unfolding autonomousOf
 returns-2 c =
-    let e = c .before .before .before .before in
-    let r = e .before in
-    let run = r .before .before .before .args .run in
-    c .accepted .ensures ∙ passed (refused 8 run) (held (r .ready-still .ensures) (e .if1 .left)) (ap accepted (c .before .moved-to .ensures))
+    let m = c .before .before in
+    let k = m .before .before .before in
+    let s = k .before .before .before .before .before in
+    rung-passed (DidStep (s .args .t .now) (s .args .r .now) Done.Accepted (m .move-to .last .0)) _ _ (held (k .ready-still .ensures) (m .before .before .if1 .left))
+    (refl, leaves-moved (s .args .t .now) (s .args .r .now) _ (s .args .posts .now) _ _ _ (s .pre .1) (s .pre .2) (m .move-to .ensures) (vars-same _ _))
 
 pub autonomous-spec : {M : Type 1} → statement M
-autonomous-spec = tie.close (tie.spec (λ c κs. search needs) (λ c κs. search needs) returns moved-to-requires (λ c κs. search needs) returns-2)
+autonomous-spec =
+    tie.close
+    (tie.spec ready-still-requires same-length returns move-to-requires same-length-2 returns-2)

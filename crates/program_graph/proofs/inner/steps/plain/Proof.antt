@@ -1,78 +1,125 @@
-use Prim.Native.Nat.{ℕ}
-use mathlib.Core.Path.{_≡_, ap, _∙_}
-use mathlib.Core.List.{List}
-use borrow.Author.Needs.{needs}
+use Prim.Native.Nat.{ℕ, zero, suc, _+_, _-_, _*_, _/_, _%_, _≤_, _<_}
+use mathlib.Core.Path.{_≡_, refl, sym, ap, _∙_}
 use native.Mathlib.Omega.{arith}
-use Rattle.laws.proofs.Ladder.{passed, stopped}
+use lib.ListN.{length, getD, set, length-set}
+use borrow.Author.Needs.{needs}
 use Rattle.laws.proofs.Tests.{held, failed}
-use Rattle.graph_steps.specs.declared.inner.effects.Effected.{Effected}
-use Rattle.program_graph.specs.Running.{refused, accepted, movedTo, plainOf}
-use Rattle.program_graph.specs.declared.record.ProgramGraphRun.{ProgramGraphRun}
-use Rattle.program_graph.proofs.RunLaws.{few-processes}
+use Rattle.graph_tables.specs.Refusals.{refusal}
+use Rattle.graph_tables.specs.declared.answers.Done.the-variants as Done
+use Rattle.program_graph.specs.Running.{plainOf}
+use Rattle.program_graph.specs.Inner.{DidStep}
+use Rattle.program_graph.proofs.LeaveLaws.{rung-stopped, rung-passed, few-places, leaves-same, effects-left, effects-moved}
 use Rattle.program_graph.proofs.inner.steps.plain.Statement.{statement}
 use Rattle.program_graph.proofs.inner.steps.plain.Tie as tie
+use Rattle.program_graph.proofs.inner.steps.plain.Reads as reads
+use Rattle.program_graph.proofs.inner.steps.plain.Lts as lts
+use Rattle.program_graph.proofs.inner.steps.move_to.Reads as move-to-reads
+use Rattle.program_graph.proofs.inner.steps.ready_on.Reads as ready-on-reads
+use Rattle.program_graph.proofs.inner.steps.run_effects.Reads as run-effects-reads
+use Rattle.program_graph.proofs.inner.steps.set_times.Reads as set-times-reads
+use Rattle.program_graph.proofs.inner.steps.times_after.Reads as times-after-reads
 
--- a move to equal variables and clocks
-moved : (run : ProgramGraphRun) (posts : List ℕ) {s e : Effected} {clocks after : List ℕ} → s ≡ e → clocks ≡ after → movedTo run posts (s .vars) clocks ≡ movedTo run posts (e .vars) after
-moved run posts {e = e} {clocks} p q = ap (λ (x : Effected). movedTo run posts (x .vars) clocks) p ∙ ap (movedTo run posts (e .vars)) q
+slice-aggregate-times-after : tie.Need-slice-aggregate-times-after
+slice-aggregate-times-after c = search needs
 
-ready-requires : tie.Need-ready-requires
-ready-requires c κs =
-    let p = c .before .before .before .before .before .before .pre in
-    (p .0, few-processes _ _ (p .0) (p .1), omega (arith, p .2))
+times-after-requires : tie.Need-times-after-requires
+times-after-requires c κs = search needs
+
+slice-aggregate-ready-on : tie.Need-slice-aggregate-ready-on
+slice-aggregate-ready-on c = search needs
+
+cast-ready-on : tie.Need-cast-ready-on
+cast-ready-on c = search needs
+
+ready-on-requires : tie.Need-ready-on-requires
+ready-on-requires c κs = search needs
+
+same-length : tie.Need-same-length
+same-length c = search needs
 
 returns : tie.Need-returns
 unfolding plainOf
 returns c =
-    let r = c .before .before in
-    let k = r .before in
-    let run = k .before .before .before .before .before .before .args .run in
-    c .refused .ensures ∙ stopped (refused 8 run) _ (failed (rw (k .clocks-after .ensures) at (r .ready .ensures)) (c .before .if1 .taken))
+    let k = c .before in
+    let a = k .before .before .before .before in
+    let s = a .before .before .before .before .before .before in
+    let ready = rw (a .times-after .ensures) at (k .ready-on .ensures) in
+    rung-stopped (DidStep (s .args .t .now) (s .args .r .now) (Done.Refused (refusal 8)) (s .args .r .now)) _ _
+    (failed ready (c .if1 .taken)) (refl, leaves-same (s .args .t .now) (s .args .r .now) (s .pre .1))
+
+run-effects-requires : tie.Need-run-effects-requires
+run-effects-requires c κs = search needs
+
+same-length-2 : tie.Need-same-length-2
+same-length-2 c = search needs
 
 returns-2 : tie.Need-returns-2
 unfolding plainOf
 returns-2 c =
-    let f = c .before .before .before in
-    let e = f .before in
-    let r = e .before in
-    let k = r .before in
-    let run = k .before .before .before .before .before .before .args .run in
-    c .refused2 .ensures
-    ∙ passed (refused 8 run) (held (rw (k .clocks-after .ensures) at (r .ready .ensures)) (e .if1 .left))
-    (stopped (refused 26 run) _ (failed (ap (λ (x : Effected). x .fits) (f .run-effects .ensures)) (c .before .if2 .taken)))
+    let e = c .before .before .before in
+    let l = e .before .before in
+    let k = l .before in
+    let a = k .before .before .before .before in
+    let s = a .before .before .before .before .before .before in
+    let ready = rw (a .times-after .ensures) at (k .ready-on .ensures) in
+    let none = failed (e .run-effects .ensures .answer) (c .if2 .taken) in
+    let did = DidStep (s .args .t .now) (s .args .r .now) (Done.Refused (refusal 26)) (e .run-effects .last .1 .0) in
+    rung-passed did _ _ (held ready (l .if1 .left))
+    (rung-stopped did _ _ none (refl, effects-left (s .args .t .now) (s .args .a) (s .args .word) (s .args .r .now) (s .pre .1) (e .run-effects .ensures) none))
 
-moved-to-requires : tie.Need-moved-to-requires
-moved-to-requires c κs =
-    let e = c .before .before .before .before in
-    let p = e .before .before .before .before .before .before .before .before .pre in
-    (few-processes _ _ (p .0) (p .1), omega (arith, p .2))
+slice-aggregate-set-times : tie.Need-slice-aggregate-set-times
+slice-aggregate-set-times c = search needs
+
+set-times-requires : tie.Need-set-times-requires
+set-times-requires c κs = search needs
+
+move-to-requires : tie.Need-move-to-requires
+move-to-requires c κs =
+    let u = c .before .before .before in
+    let e = u .before .before .before .before .before .before in
+    let a = e .before .before .before .before .before .before .before in
+    let s = a .before .before .before .before .before .before in
+    (u .set-times .ensures .words, few-places (s .args .t .now) (s .args .r .now) (s .pre .0) (s .pre .1) _ (s .pre .2))
+
+same-length-3 : tie.Need-same-length-3
+same-length-3 c = search needs
 
 returns-3 : tie.Need-returns-3
 unfolding plainOf
 returns-3 c =
-    let d = c .before .before .before in
-    let f = d .before .before in
-    let e = f .before in
-    let r = e .before in
-    let k = r .before in
-    let s = k .before .before .before .before .before .before .args in
-    c .accepted .ensures
-    ∙ passed (refused 8 (s .run)) (held (rw (k .clocks-after .ensures) at (r .ready .ensures)) (e .if1 .left))
-    (passed (refused 26 (s .run)) (held (ap (λ (x : Effected). x .fits) (f .run-effects .ensures)) (d .if2 .left))
-    (ap accepted (c .before .moved-to .ensures ∙ moved (s .run) (s .posts .now) (f .run-effects .ensures) (k .clocks-after .ensures))))
+    let m = c .before .before in
+    let u = m .before .before .before .before in
+    let f = u .before .before .before in
+    let e = f .before .before .before in
+    let l = e .before .before in
+    let k = l .before in
+    let a = k .before .before .before .before in
+    let s = a .before .before .before .before .before .before in
+    let ready = rw (a .times-after .ensures) at (k .ready-on .ensures) in
+    let all = held (e .run-effects .ensures .answer) (f .if2 .left) in
+    let times = rw (a .times-after .ensures) at (u .set-times .ensures) in
+    let did = DidStep (s .args .t .now) (s .args .r .now) Done.Accepted (m .move-to .last .0) in
+    rung-passed did _ _ (held ready (l .if1 .left))
+    (rung-passed did _ _ all
+    (refl, effects-moved (s .args .t .now) (s .args .a) (s .args .word) (s .args .r .now) (s .pre .1) (e .run-effects .ensures) (s .args .posts .now) _ _ _
+    (s .pre .2) all times (m .move-to .ensures)))
 
 pub plain-spec : {M : Type 1} → statement M
 plain-spec =
     tie.close
     (tie.spec
-    (λ c κs. search needs)
-    (λ c. search needs)
-    ready-requires
-    (λ c κs. search needs)
+    slice-aggregate-times-after
+    times-after-requires
+    slice-aggregate-ready-on
+    cast-ready-on
+    ready-on-requires
+    same-length
     returns
-    (λ c κs. search needs)
-    (λ c κs. search needs)
+    run-effects-requires
+    same-length-2
     returns-2
-    moved-to-requires
-    (λ c κs. search needs)
+    slice-aggregate-set-times
+    set-times-requires
+    move-to-requires
+    same-length-3
     returns-3)

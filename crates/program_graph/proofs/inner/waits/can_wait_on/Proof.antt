@@ -1,34 +1,30 @@
+use Prim.Native.Nat.{ℕ, zero, suc, _+_, _-_, _*_, _/_, _%_, _≤_, _<_}
+use mathlib.Core.Path.{_≡_, refl, sym, ap, _∙_}
+use native.Mathlib.Omega.{arith}
+use lib.ListN.{length, getD, set, length-set}
 use borrow.Author.Needs.{needs}
 use Rattle.laws.proofs.Tests.{held, failed}
 use Rattle.laws.proofs.BelowLaws.{and-yes, and-no}
-use Rattle.program_graph.proofs.RunLaws.{few-clocks}
 use Rattle.program_graph.proofs.inner.waits.can_wait_on.Statement.{statement}
 use Rattle.program_graph.proofs.inner.waits.can_wait_on.Tie as tie
+use Rattle.program_graph.proofs.inner.waits.can_wait_on.Reads as reads
+use Rattle.program_graph.proofs.inner.waits.can_wait_on.Lts as lts
+use Rattle.program_graph.proofs.inner.waits.wait_fits.Reads as wait-fits-reads
+use Rattle.program_graph.proofs.inner.waits.wait_holds.Reads as wait-holds-reads
 
-clocks-fit-requires : tie.Need-clocks-fit-requires
-clocks-fit-requires c κs = let p = c .before .before .pre in few-clocks _ _ (p .0) (p .1)
+wait-fits-requires : tie.Need-wait-fits-requires
+wait-fits-requires c κs = search needs
 
 returns : tie.Need-returns
-returns c = and-no _ (failed (c .before .clocks-fit .ensures) (c .if1 .taken))
+returns c = and-no _ (failed (c .before .wait-fits .ensures) (c .if1 .taken))
 
-shifted-requires : tie.Need-shifted-requires
-shifted-requires c κs =
-    let k = c .before in
-    let p = k .before .before .before .pre in
-    (few-clocks _ _ (p .0) (p .1), held (k .clocks-fit .ensures) (c .if1 .left))
+wait-holds-requires : tie.Need-wait-holds-requires
+wait-holds-requires c κs =
+    let s = c .before .before .before .before in
+    (s .pre .0, s .pre .1, held (c .before .wait-fits .ensures) (c .if1 .left))
 
 returns-2 : tie.Need-returns-2
-returns-2 c =
-    let s = c .before in
-    let e = s .before in
-    and-yes (held (e .before .clocks-fit .ensures) (e .if1 .left)) (rw (s .shifted .ensures) at (c .wait-holds .ensures))
+returns-2 c = let l = c .before in and-yes (held (l .before .wait-fits .ensures) (l .if1 .left)) (c .wait-holds .ensures)
 
 pub can-wait-on-spec : {M : Type 1} → statement M
-can-wait-on-spec =
-    tie.close
-    (tie.spec
-    clocks-fit-requires
-    returns
-    shifted-requires
-    (λ c κs. search needs)
-    returns-2)
+can-wait-on-spec = tie.close (tie.spec wait-fits-requires returns wait-holds-requires returns-2)

@@ -1,79 +1,113 @@
-use Prim.Native.Nat.{ℕ}
-use mathlib.Core.Path.{ap, _∙_}
-use mathlib.Core.List.{List}
+use Prim.Native.Nat.{ℕ, zero, suc, _+_, _-_, _*_, _/_, _%_, _≤_, _<_}
+use mathlib.Core.Path.{_≡_, refl, sym, ap, _∙_}
 use native.Mathlib.Omega.{arith}
+use lib.ListN.{length, getD, set, length-set}
 use borrow.Author.Needs.{needs}
-use Rattle.laws.proofs.Ladder.{passed, stopped}
 use Rattle.laws.proofs.Tests.{held, failed}
-use Rattle.program_graph.specs.Running.{refusedWait, acceptedWait, waitedOf}
-use Rattle.program_graph.proofs.RunLaws.{few-clocks}
+use Rattle.graph_tables.specs.Refusals.{refusal}
+use Rattle.graph_tables.specs.declared.answers.Done.the-variants as Done
+use Rattle.run_steps.proofs.StepLaws.{shifted-length}
+use Rattle.program_graph.specs.Running.{waitedOf}
+use Rattle.program_graph.specs.Inner.{DidWait}
+use Rattle.program_graph.proofs.WordLaws.{times-length}
+use Rattle.program_graph.proofs.LeaveLaws.{rung-stopped, rung-passed, leaves-same, leaves-later}
 use Rattle.program_graph.proofs.inner.waits.wait_on.Statement.{statement}
 use Rattle.program_graph.proofs.inner.waits.wait_on.Tie as tie
+use Rattle.program_graph.proofs.inner.waits.wait_on.Reads as reads
+use Rattle.program_graph.proofs.inner.waits.wait_on.Lts as lts
+use Rattle.program_graph.proofs.inner.steps.set_times.Reads as set-times-reads
+use Rattle.program_graph.proofs.inner.waits.places_hold.Reads as places-hold-reads
+use Rattle.program_graph.proofs.inner.waits.times_later.Reads as times-later-reads
+use Rattle.program_graph.proofs.inner.waits.wait_fits.Reads as wait-fits-reads
 
-clocks-fit-requires : tie.Need-clocks-fit-requires
-clocks-fit-requires c κs =
-    let p = c .before .before .pre in
-    let few = few-clocks _ _ (p .0) (p .1) in
-    omega (arith, few)
+wait-fits-requires : tie.Need-wait-fits-requires
+wait-fits-requires c κs = search needs
+
+same-length : tie.Need-same-length
+same-length c = search needs
 
 returns : tie.Need-returns
 unfolding waitedOf
 returns c =
-    let k = c .before .before in
-    let run = k .before .before .before .args .run in
-    c .refused .ensures ∙ stopped (refusedWait 26 run) _ (failed (k .clocks-fit .ensures) (c .before .if1 .taken))
-
-shifted-requires : tie.Need-shifted-requires
-shifted-requires c κs =
     let k = c .before in
-    let p = k .before .before .before .pre in
-    (few-clocks _ _ (p .0) (p .1), held (k .clocks-fit .ensures) (c .if1 .left))
+    let s = k .before .before .before .before in
+    rung-stopped (DidWait (s .args .t .now) (s .args .r .now) (Done.Refused (refusal 26)) (s .args .r .now)) _ _ (failed (k .wait-fits .ensures) (c .if1 .taken)) (refl, leaves-same (s .args .t .now) (s .args .r .now) (s .pre .1))
+
+slice-aggregate-times-later : tie.Need-slice-aggregate-times-later
+slice-aggregate-times-later c = search needs
+
+times-later-requires : tie.Need-times-later-requires
+times-later-requires c κs =
+    let l = c .before .before in
+    let s = l .before .before .before .before .before in
+    (s .pre .0, s .pre .1, refl, held (l .before .wait-fits .ensures) (l .if1 .left))
+
+slice-aggregate-places-hold : tie.Need-slice-aggregate-places-hold
+slice-aggregate-places-hold c = search needs
+
+places-hold-requires : tie.Need-places-hold-requires
+places-hold-requires c κs =
+    let a = c .before .before .before in
+    let s = a .before .before .before .before .before .before .before .before in
+    (s .pre .0, s .pre .1, ap length (a .times-later .ensures) ∙ shifted-length _ _ _ ∙ times-length (s .args .r .now) (s .pre .1 .words))
+
+same-length-2 : tie.Need-same-length-2
+same-length-2 c = search needs
 
 returns-2 : tie.Need-returns-2
 unfolding waitedOf
 returns-2 c =
-    let w = c .before .before in
-    let s = w .before in
-    let e = s .before in
-    let k = e .before in
-    let run = k .before .before .before .args .run in
-    c .refused2 .ensures
-    ∙ passed (refusedWait 26 run) (held (k .clocks-fit .ensures) (e .if1 .left))
-    (stopped (refusedWait 9 run) _ (failed (rw (s .shifted .ensures) at (w .wait-holds .ensures)) (c .before .if2 .taken)))
+    let h = c .before in
+    let a = h .before .before .before .before in
+    let l = a .before .before .before in
+    let k = l .before in
+    let s = k .before .before .before .before in
+    let holds = rw (a .times-later .ensures) at (h .places-hold .ensures) in
+    let did = DidWait (s .args .t .now) (s .args .r .now) (Done.Refused (refusal 9)) (s .args .r .now) in
+    rung-passed did _ _ (held (k .wait-fits .ensures) (l .if1 .left)) (rung-stopped did _ _ (failed holds (c .if2 .taken)) (refl, leaves-same (s .args .t .now) (s .args .r .now) (s .pre .1)))
+
+slice-aggregate-set-times : tie.Need-slice-aggregate-set-times
+slice-aggregate-set-times c = search needs
+
+set-times-requires : tie.Need-set-times-requires
+set-times-requires c κs =
+    let a = c .before .before .before .before .before .before .before in
+    let s = a .before .before .before .before .before .before .before .before in
+    (s .pre .1 .words, ap length (a .times-later .ensures) ∙ shifted-length _ _ _ ∙ times-length (s .args .r .now) (s .pre .1 .words))
+
+same-length-3 : tie.Need-same-length-3
+same-length-3 c = search needs
 
 returns-3 : tie.Need-returns-3
 unfolding waitedOf
 returns-3 c =
-    let d = c .before .before in
-    let w = d .before in
-    let s = w .before in
-    let e = s .before in
-    let k = e .before in
-    let run = k .before .before .before .args .run in
-    passed (refusedWait 26 run) (held (k .clocks-fit .ensures) (e .if1 .left))
-    (passed (refusedWait 9 run) (held (rw (s .shifted .ensures) at (w .wait-holds .ensures)) (d .if2 .left))
-    (ap
-    (λ (times : List ℕ).
-    acceptedWait
-    (record {
-      places = run .places;
-      vars = run .vars;
-      times = times;
-      processes = run .processes;
-      variables = run .variables;
-      clocks = run .clocks;
-    }))
-    (s .shifted .ensures)))
+    let u = c .before .before in
+    let m = u .before .before .before in
+    let h = m .before in
+    let a = h .before .before .before .before in
+    let l = a .before .before .before in
+    let k = l .before in
+    let s = k .before .before .before .before in
+    let holds = rw (a .times-later .ensures) at (h .places-hold .ensures) in
+    let times = rw (a .times-later .ensures) at (u .set-times .ensures) in
+    let did = DidWait (s .args .t .now) (s .args .r .now) Done.Accepted (u .set-times .last .0) in
+    rung-passed did _ _ (held (k .wait-fits .ensures) (l .if1 .left))
+    (rung-passed did _ _ (held holds (m .if2 .left)) (refl, leaves-later (s .args .t .now) (s .args .r .now) _ _ (s .pre .1) times))
 
 pub wait-on-spec : {M : Type 1} → statement M
 wait-on-spec =
     tie.close
     (tie.spec
-    clocks-fit-requires
-    (λ c κs. search needs)
+    wait-fits-requires
+    same-length
     returns
-    shifted-requires
-    (λ c κs. search needs)
-    (λ c κs. search needs)
+    slice-aggregate-times-later
+    times-later-requires
+    slice-aggregate-places-hold
+    places-hold-requires
+    same-length-2
     returns-2
+    slice-aggregate-set-times
+    set-times-requires
+    same-length-3
     returns-3)

@@ -12,12 +12,12 @@ returns : tie.Need-returns
 unfolding canWaitOf
 returns c = stopped _ _ (failed (c .before .fits-table .ensures) (c .if1 .taken))
 
-can-wait-on-requires : tie.Need-can-wait-on-requires
-can-wait-on-requires c κs = fitting _ _ (held (c .before .fits-table .ensures) (c .if1 .left))
+can-wait-requires : tie.Need-can-wait-requires
+can-wait-requires c κs = fitting _ _ (held (c .before .fits-table .ensures) (c .if1 .left))
 
 returns-2 : tie.Need-returns-2
 unfolding canWaitOf
-returns-2 c = let e = c .before in passed _ (held (e .before .fits-table .ensures) (e .if1 .left)) (ap Held.Is (c .can-wait-on .ensures))
+returns-2 c = let e = c .before in passed _ (held (e .before .fits-table .ensures) (e .if1 .left)) (ap Held.Is (c .can-wait .ensures))
 
 pub can-wait-spec : {M : Type 1} → statement M
-can-wait-spec = tie.close (tie.spec (λ c κs. search needs) returns can-wait-on-requires returns-2)
+can-wait-spec = tie.close (tie.spec (λ c κs. search needs) returns can-wait-requires returns-2)

@@ -12,12 +12,12 @@ returns : tie.Need-returns
 unfolding isWaitingOf
 returns c = stopped _ _ (failed (c .before .fits-table .ensures) (c .if1 .taken))
 
-is-waiting-on-requires : tie.Need-is-waiting-on-requires
-is-waiting-on-requires c κs = fitting _ _ (held (c .before .fits-table .ensures) (c .if1 .left))
+is-waiting-requires : tie.Need-is-waiting-requires
+is-waiting-requires c κs = fitting _ _ (held (c .before .fits-table .ensures) (c .if1 .left))
 
 returns-2 : tie.Need-returns-2
 unfolding isWaitingOf
-returns-2 c = let e = c .before in passed _ (held (e .before .fits-table .ensures) (e .if1 .left)) (ap Held.Is (c .is-waiting-on .ensures))
+returns-2 c = let e = c .before in passed _ (held (e .before .fits-table .ensures) (e .if1 .left)) (ap Held.Is (c .is-waiting .ensures))
 
 pub is-waiting-spec : {M : Type 1} → statement M
-is-waiting-spec = tie.close (tie.spec (λ c κs. search needs) returns is-waiting-on-requires returns-2)
+is-waiting-spec = tie.close (tie.spec (λ c κs. search needs) returns is-waiting-requires returns-2)

@@ -19,15 +19,15 @@ returns-2 c =
     let e = c .before .before in
     passed (Listed.Refused (refusal 32)) (held (e .before .fits-table .ensures) (e .if1 .left)) (stopped _ _ (ne-eqb _ _ (c .if2 .taken)))
 
-listed-on-requires : tie.Need-listed-on-requires
-listed-on-requires c κs = let e = c .before .before in fitting _ _ (held (e .before .fits-table .ensures) (e .if1 .left))
+entry-requires : tie.Need-entry-requires
+entry-requires c κs = let e = c .before .before in fitting _ _ (held (e .before .fits-table .ensures) (e .if1 .left))
 
 returns-3 : tie.Need-returns-3
 unfolding nosyncOf
 returns-3 c =
     let f = c .before in
     let e = f .before .before in
-    passed (Listed.Refused (refusal 32)) (held (e .before .fits-table .ensures) (e .if1 .left)) (passed (Listed.Refused (refusal 16)) (eq-eqb _ _ (f .if2 .left)) (c .listed-on .ensures))
+    passed (Listed.Refused (refusal 32)) (held (e .before .fits-table .ensures) (e .if1 .left)) (passed (Listed.Refused (refusal 16)) (eq-eqb _ _ (f .if2 .left)) (c .entry .ensures))
 
 pub nosync-possible-transitions-spec : {M : Type 1} → statement M
-nosync-possible-transitions-spec = tie.close (tie.spec (λ c κs. search needs) returns returns-2 listed-on-requires returns-3)
+nosync-possible-transitions-spec = tie.close (tie.spec (λ c κs. search needs) returns returns-2 entry-requires returns-3)

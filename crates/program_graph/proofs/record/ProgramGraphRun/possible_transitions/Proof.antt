@@ -10,12 +10,12 @@ returns : tie.Need-returns
 unfolding possibleOf
 returns c = stopped _ _ (failed (c .before .fits-table .ensures) (c .if1 .taken))
 
-listed-on-requires : tie.Need-listed-on-requires
-listed-on-requires c κs = fitting _ _ (held (c .before .fits-table .ensures) (c .if1 .left))
+entry-requires : tie.Need-entry-requires
+entry-requires c κs = fitting _ _ (held (c .before .fits-table .ensures) (c .if1 .left))
 
 returns-2 : tie.Need-returns-2
 unfolding possibleOf
-returns-2 c = let e = c .before in passed _ (held (e .before .fits-table .ensures) (e .if1 .left)) (c .listed-on .ensures)
+returns-2 c = let e = c .before in passed _ (held (e .before .fits-table .ensures) (e .if1 .left)) (c .entry .ensures)
 
 pub possible-transitions-spec : {M : Type 1} → statement M
-possible-transitions-spec = tie.close (tie.spec (λ c κs. search needs) returns listed-on-requires returns-2)
+possible-transitions-spec = tie.close (tie.spec (λ c κs. search needs) returns entry-requires returns-2)

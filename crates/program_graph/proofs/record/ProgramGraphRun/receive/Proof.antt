@@ -1,4 +1,3 @@
-use mathlib.Core.Path.{_∙_}
 use borrow.Author.Needs.{needs}
 use Rattle.laws.proofs.Ladder.{passed, stopped}
 use Rattle.laws.proofs.Tests.{held, failed}
@@ -9,14 +8,14 @@ use Rattle.program_graph.proofs.record.ProgramGraphRun.receive.Tie as t
 
 returns : tie.Need-returns
 unfolding receiveOf
-returns c = c .refused-receive .ensures ∙ stopped _ _ (failed (c .before .before .fits-table .ensures) (c .before .if1 .taken))
+returns c = stopped _ _ (failed (c .before .fits-table .ensures) (c .if1 .taken))
 
-receive-on-requires : tie.Need-receive-on-requires
-receive-on-requires c κs = fitting _ _ (held (c .before .fits-table .ensures) (c .if1 .left))
+receive-requires : tie.Need-receive-requires
+receive-requires c κs = fitting _ _ (held (c .before .fits-table .ensures) (c .if1 .left))
 
 returns-2 : tie.Need-returns-2
 unfolding receiveOf
-returns-2 c = let e = c .before in passed _ (held (e .before .fits-table .ensures) (e .if1 .left)) (c .receive-on .ensures)
+returns-2 c = let e = c .before in passed _ (held (e .before .fits-table .ensures) (e .if1 .left)) (c .receive .ensures)
 
 pub receive-spec : {M : Type 1} → statement M
-receive-spec = tie.close (tie.spec (λ c κs. search needs) (λ c κs. search needs) returns receive-on-requires returns-2)
+receive-spec = tie.close (tie.spec (λ c κs. search needs) returns receive-requires returns-2)

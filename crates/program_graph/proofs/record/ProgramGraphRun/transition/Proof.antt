@@ -1,4 +1,3 @@
-use mathlib.Core.Path.{_∙_}
 use borrow.Author.Needs.{needs}
 use Rattle.laws.proofs.Ladder.{passed, stopped}
 use Rattle.laws.proofs.Tests.{held, failed}
@@ -9,7 +8,7 @@ use Rattle.program_graph.proofs.record.ProgramGraphRun.transition.Tie a
 
 returns : tie.Need-returns
 unfolding transitionOf
-returns c = c .refused .ensures ∙ stopped _ _ (failed (c .before .before .fits-table .ensures) (c .before .if1 .taken))
+returns c = stopped _ _ (failed (c .before .fits-table .ensures) (c .if1 .taken))
 
 step-requires : tie.Need-step-requires
 step-requires c κs = fitting _ _ (held (c .before .fits-table .ensures) (c .if1 .left))
@@ -22,7 +21,6 @@ pub transition-spec : {M : Type 1} → statement M
 transition-spec =
     tie.close
     (tie.spec
-    (λ c κs. search needs)
     (λ c κs. search needs)
     returns
     step-requires

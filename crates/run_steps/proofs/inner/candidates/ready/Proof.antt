@@ -45,7 +45,8 @@ loop-holds c = (refl, search needs, any-none _)
 leads-requires : tie.Need-leads-requires Inv-loop μ-loop Inv-processes μ-processes
 leads-requires c κs =
     let s = c .before .before .before .before .before .before .before .before .before .before .before .before .before .before .before in
-    (s .pre .0, omega (arith, c .before .before .before .before .before .before .before .before .transition-count .ensures), s .pre .1, s .pre .2, s .pre .3)
+    (s .pre .0, omega (arith, c .before .before .before .before .before .before .before .before .transition-count .ensures), s .pre .1,
+    s .pre .2, s .pre .3)
 
 processes-again : tie.Need-processes-again Inv-loop μ-loop Inv-processes μ-processes
 unfolding processReady
@@ -75,7 +76,8 @@ returns-3 : tie.Need-returns-3 Inv-loop μ-loop Inv-processes μ-processes
 unfolding readyOf processReady
 returns-3 c =
     let l = c .before in
-    sym (all-fails _ _ (l .before .before .before .before .before .before .processes .p) (omega arith) (any-done _ _ (l .loop .k) (omega arith) (omega arith) (l .loop .inv .2)))
+    sym (all-fails _ _ (l .before .before .before .before .before .before .processes .p) (omega arith)
+    (any-done _ _ (l .loop .k) (omega arith) (omega arith) (l .loop .inv .2)))
 
 pub ready-spec : {M : Type 1} → statement M
 ready-spec =

@@ -28,7 +28,8 @@ limit-holds-requires c κs =
 
 returns : tie.Need-returns Inv-loop μ-loop
 unfolding limitsHold
-returns c = sym (all-fails _ _ (c .before .before .before .loop .i) (omega arith) (failed (c .before .limit-holds .ensures) (c .if1 .taken)))
+returns c =
+    sym (all-fails _ _ (c .before .before .before .loop .i) (omega arith) (failed (c .before .limit-holds .ensures) (c .if1 .taken)))
 
 loop-again : tie.Need-loop-again Inv-loop μ-loop
 loop-again c = (omega arith, all-more _ _ (c .before .before .before .loop .inv .1) (held (c .before .limit-holds .ensures) (c .if1 .left)))

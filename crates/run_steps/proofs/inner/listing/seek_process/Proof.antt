@@ -9,14 +9,17 @@ use Rattle.grammar.specs.Slots.{slotsOf}
 use Rattle.graph_tables.specs.Words.{preOf, actionOf}
 use Rattle.run_steps.specs.Listing.{seek, joinBelow, opensBy, entryOf}
 use Rattle.run_steps.specs.declared.inner.listing.Sought.the-variants.{Found, Left}
-use Rattle.run_steps.proofs.ListingLaws.{join-none, join-more, join-found, join-done, one-found, one-passed, none-passed, opens-entry}
+use Rattle.run_steps.proofs.ListingLaws.{join-none, join-more, join-found, join-done, one-found, one-passed, none-passed}
+use Rattle.run_steps.proofs.ListingLaws.{opens-entry}
 use Rattle.run_steps.proofs.inner.listing.seek_process.Statement.{statement}
 use Rattle.run_steps.proofs.inner.listing.seek_process.Tie as tie
 
 abbrev Inv-loop : tie.InvT-loop
 Inv-loop t vars clocks after first p number left₀ k₀ k-end left k =
     (k ≤ k-end)
-    × (seek (joinBelow k (λ (i : ℕ). cond (opensBy t (slotsOf vars) clocks (preOf first) (actionOf first) i) (entryOf t (actionOf first) p i ∷ []) [])) number ≡ Left left)
+    × (seek (joinBelow k
+    (λ (i : ℕ). cond (opensBy t (slotsOf vars) clocks (preOf first) (actionOf first) i)
+    (entryOf t (actionOf first) p i ∷ []) [])) number ≡ Left left)
 
 abbrev μ-loop : tie.MeasureT-loop
 μ-loop t vars clocks after first p number left₀ k₀ k-end left k = k-end - k

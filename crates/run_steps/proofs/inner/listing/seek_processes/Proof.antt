@@ -31,7 +31,8 @@ seek-process-requires : tie.Need-seek-process-requires Inv-loop μ-loop
 seek-process-requires c κs =
     let s = c .before .before .before .before .before .before .before .before .before in
     let k = asked _ _ _ 0 (c .key-with .ensures) (omega arith) (omega arith) in
-    (s .pre .0, s .pre .1, s .pre .2, s .pre .3, s .pre .4 ∙ ap (λ (a : ℕ). clocksBy (s .args .t .now) a (s .args .clocks .now)) (sym (k .action)), k .post)
+    (s .pre .0, s .pre .1, s .pre .2, s .pre .3, s .pre .4
+    ∙ ap (λ (a : ℕ). clocksBy (s .args .t .now) a (s .args .clocks .now)) (sym (k .action)), k .post)
 
 -- what was sought, by the place and the action
 module _ (c : tie.After-seek-process Inv-loop μ-loop) where
@@ -43,7 +44,8 @@ module _ (c : tie.After-seek-process Inv-loop μ-loop) where
 
   there :
       c .seek-process .result
-      ≡ seek (processEntries (from .args .t .now) (slotsOf (from .args .vars .now)) (from .args .clocks .now) (getD (from .args .places .now) (at .loop .p) 0) (from .args .action) (at .loop .p)) (at .loop .left)
+      ≡ seek (processEntries (from .args .t .now) (slotsOf (from .args .vars .now)) (from .args .clocks .now)
+      (getD (from .args .places .now) (at .loop .p) 0) (from .args .action) (at .loop .p)) (at .loop .left)
   there =
       process-sought (from .args .t .now) (slotsOf (from .args .vars .now)) (from .args .clocks .now)
       (asked _ _ _ 0 (c .before .key-with .ensures) (omega arith) (omega arith)) (at .loop .p) (at .loop .left) (c .seek-process .ensures)

@@ -20,7 +20,8 @@ abbrev saying : List Slot → ℕ → Speech
 saying values word = record { values = values; word = word; fits = true }
 
 abbrev Inv-loop : tie.InvT-loop
-Inv-loop t a vars word values₀ left₀ e₀ e-end values left e = (e ≤ e-end) × (saying values left ≡ spokenBelow t a (slotsOf vars) (saying values₀ word) e)
+Inv-loop t a vars word values₀ left₀ e₀ e-end values left e =
+    (e ≤ e-end) × (saying values left ≡ spokenBelow t a (slotsOf vars) (saying values₀ word) e)
 
 abbrev μ-loop : tie.MeasureT-loop
 μ-loop t a vars word values₀ left₀ e₀ e-end values left e = e-end - e
@@ -36,7 +37,8 @@ effect-items-requires : tie.Need-effect-items-requires Inv-loop μ-loop
 effect-items-requires c κs =
     let s = c .before .before .before .before .before .before .before in
     let a = s .pre .0 .action _ (s .pre .1) in
-    (s .pre .0 .words, omega (arith, s .pre .0 .counts .actions), omega (arith, a .few), a .send (s .pre .2) .expression (c .before .loop .e) (omega arith) .short)
+    (s .pre .0 .words, omega (arith, s .pre .0 .counts .actions), omega (arith, a .few), a .send (s .pre .2) .expression
+    (c .before .loop .e) (omega arith) .short)
 
 -- the values that the loop begins with are blank
 begun : (t : List ℕ) (a : ℕ) (vars : List Slot) (word : ℕ) (m : Message) → m ≡ noMessage
@@ -69,7 +71,8 @@ module _ (c : tie.After-evaluate-on Inv-loop μ-loop) where
   few : e < effectCount t a
   few = omega (arith, c .before .before .loop-test .taken, c .before .before .before .before .effect-count .ensures)
 
-  turned : {z : Evaluated} → c .evaluate-on .result .value ≡ z → spokenBelow t a vars s (e + 1) ≡ voiced now e z (c .evaluate-on .result .rest)
+  turned : {z : Evaluated} → c .evaluate-on .result .value ≡ z
+      → spokenBelow t a vars s (e + 1) ≡ voiced now e z (c .evaluate-on .result .rest)
   turned {z} q =
       let i = c .before .before .before .loop .inv .1 in
       spoken-turn t a vars s e (c .evaluate-on .result) (sym (ap (λ (r : Speech). r .fits) i))

@@ -16,7 +16,8 @@ use Rattle.run_steps.proofs.inner.messages.take_in.Tie as tie
 -- the loop sees the message's values alone
 abbrev Inv-loop : tie.InvT-loop
 Inv-loop t a vars₀ values e₀ e-end vars e =
-    (e ≤ e-end) × (length vars ≡ length vars₀) × ((m : Message) → values ≡ m .values → VarsLeft (variableCount t) vars₀ vars (takenBelow t a m (slotsOf vars₀) e))
+    (e ≤ e-end) × (length vars ≡ length vars₀) × ((m : Message) → values ≡ m .values → VarsLeft (variableCount t) vars₀ vars
+    (takenBelow t a m (slotsOf vars₀) e))
 
 abbrev μ-loop : tie.MeasureT-loop
 μ-loop t a vars₀ values e₀ e-end vars e = e-end - e
@@ -39,10 +40,12 @@ effect-var-requires c κs =
     (s .pre .0 .words, omega (arith, s .pre .0 .counts .actions), omega (arith, s .pre .0 .action _ (s .pre .1) .few))
 
 -- the variable that takes the value at hand
-known : (c : tie.After-effect-var Inv-loop μ-loop) → c .effect-var .result < variableCount (c .before .before .before .before .before .before .before .before .before .args .t .now)
+known : (c : tie.After-effect-var Inv-loop μ-loop)
+    → c .effect-var .result < variableCount (c .before .before .before .before .before .before .before .before .before .args .t .now)
 known c =
     let s = c .before .before .before .before .before .before .before .before .before in
-    omega (arith, c .effect-var .ensures, s .pre .0 .action _ (s .pre .1) .receive (s .pre .2) .var (c .before .before .before .before .loop .e) (omega arith))
+    omega (arith, c .effect-var .ensures, s .pre .0 .action _ (s .pre .1) .receive (s .pre .2) .var
+    (c .before .before .before .before .loop .e) (omega arith))
 
 put-requires : tie.Need-put-requires Inv-loop μ-loop
 put-requires c κs =
@@ -60,7 +63,8 @@ loop-again c =
       rw (p .put .ensures .0) (simp length-set (l .inv .1)),
       λ m h.
           vars-more (l .vars) (variableCount (o .args .t .now)) (v .effect-var .result) _ (l .inv .1 ∙ o .pre .3) (known v)
-          (o .pre .0 .counts .variables) (p .put .ensures .1) (l .inv .2 m h) (p .put .ensures .0) (rw (add-one, ← (v .effect-var .ensures), ← h)),
+          (o .pre .0 .counts .variables) (p .put .ensures .1) (l .inv .2 m h) (p .put .ensures .0)
+          (rw (add-one, ← (v .effect-var .ensures), ← h)),
     )
 
 returns : tie.Need-returns Inv-loop μ-loop

@@ -19,7 +19,8 @@ kind-at-requires c κs =
 
 returns : tie.Need-returns
 unfolding valueFits
-returns c = rw (c .kind-at .ensures, c .before .effect-var .ensures, c .before .before .word .ensures, c .before .before .before .kind .ensures)
+returns c =
+    rw (c .kind-at .ensures, c .before .effect-var .ensures, c .before .before .word .ensures, c .before .before .before .kind .ensures)
 
 pub value-fits-spec : {M : Type 1} → statement M
 value-fits-spec =

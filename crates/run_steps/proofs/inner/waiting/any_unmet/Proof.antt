@@ -29,7 +29,8 @@ returns : tie.Need-returns Inv-loop μ-loop
 returns c = sym (any-found _ _ (c .before .before .before .loop .i) (omega arith) (rw (c .before .lower-unmet .ensures) at (c .if1 .taken)))
 
 loop-again : tie.Need-loop-again Inv-loop μ-loop
-loop-again c = (omega arith, any-more _ _ (c .before .before .before .loop .inv .1) (rw (c .before .lower-unmet .ensures) at (c .if1 .left)))
+loop-again c =
+    (omega arith, any-more _ _ (c .before .before .before .loop .inv .1) (rw (c .before .lower-unmet .ensures) at (c .if1 .left)))
 
 returns-2 : tie.Need-returns-2 Inv-loop μ-loop
 returns-2 c = sym (any-done _ _ (c .before .loop .i) (omega arith) (omega arith) (c .before .loop .inv .1))

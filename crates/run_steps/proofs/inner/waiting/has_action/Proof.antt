@@ -23,18 +23,21 @@ leaves-by-requires : tie.Need-leaves-by-requires Inv-loop μ-loop
 leaves-by-requires c κs =
     let f = c .before .before .before in
     let s = f .before .before in
-    (s .pre .0 .words, omega (arith, s .pre .0 .counts .transitions), asked _ _ _ 0 (f .key-with .ensures) (omega arith) (omega arith) .post)
+    (s .pre .0 .words, omega (arith, s .pre .0 .counts .transitions), asked _ _ _ 0 (f .key-with .ensures) (omega arith)
+    (omega arith) .post)
 
 returns : tie.Need-returns Inv-loop μ-loop
 returns c =
     let l = c .before .before .before in
-    let leaves = leaves-parts (asked _ _ _ 0 (l .before .before .key-with .ensures) (omega arith) (omega arith)) _ _ (c .before .leaves-by .ensures) in
+    let leaves =
+    leaves-parts (asked _ _ _ 0 (l .before .before .key-with .ensures) (omega arith) (omega arith)) _ _ (c .before .leaves-by .ensures) in
     sym (any-found _ _ (l .loop .k) (omega arith) (sym leaves ∙ c .if1 .taken))
 
 loop-again : tie.Need-loop-again Inv-loop μ-loop
 loop-again c =
     let l = c .before .before .before in
-    let leaves = leaves-parts (asked _ _ _ 0 (l .before .before .key-with .ensures) (omega arith) (omega arith)) _ _ (c .before .leaves-by .ensures) in
+    let leaves =
+    leaves-parts (asked _ _ _ 0 (l .before .before .key-with .ensures) (omega arith) (omega arith)) _ _ (c .before .leaves-by .ensures) in
     (omega arith, any-more _ _ (l .loop .inv .1) (sym leaves ∙ c .if1 .left))
 
 returns-2 : tie.Need-returns-2 Inv-loop μ-loop

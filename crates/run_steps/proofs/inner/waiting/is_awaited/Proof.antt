@@ -18,7 +18,8 @@ unfolding awaitedOf
 returns-2 c =
     let e = c .before .before in
     let p = e .before .before in
-    and-yes (eq-eqb _ _ (rw (p .pre-of .ensures, p .before .key-of .ensures) at (e .if1 .left))) (and-no _ (failed (c .before .is-coming .ensures) (c .if2 .taken)))
+    and-yes (eq-eqb _ _ (rw (p .pre-of .ensures, p .before .key-of .ensures) at (e .if1 .left)))
+    (and-no _ (failed (c .before .is-coming .ensures) (c .if2 .taken)))
 
 returns-3 : tie.Need-returns-3
 unfolding awaitedOf

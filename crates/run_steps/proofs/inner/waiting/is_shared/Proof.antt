@@ -27,11 +27,13 @@ has-action-requires c κs =
 
 returns : tie.Need-returns Inv-loop μ-loop
 unfolding sharedOf placeHas
-returns c = sym (all-fails _ _ (c .before .before .before .before .loop .p) (omega arith) (failed (c .before .has-action .ensures) (c .if1 .taken)))
+returns c =
+    sym (all-fails _ _ (c .before .before .before .before .loop .p) (omega arith) (failed (c .before .has-action .ensures) (c .if1 .taken)))
 
 loop-again : tie.Need-loop-again Inv-loop μ-loop
 unfolding placeHas
-loop-again c = (omega arith, all-more _ _ (c .before .before .before .before .loop .inv .1) (held (c .before .has-action .ensures) (c .if1 .left)))
+loop-again c =
+    (omega arith, all-more _ _ (c .before .before .before .before .loop .inv .1) (held (c .before .has-action .ensures) (c .if1 .left)))
 
 returns-2 : tie.Need-returns-2 Inv-loop μ-loop
 unfolding sharedOf

@@ -27,7 +27,8 @@ upper-holds-requires c κs =
     (k .0, k .1, k .2, omega (arith, k .4, s .pre .3))
 
 returns : tie.Need-returns Inv-loop μ-loop
-returns c = sym (all-fails _ _ (c .before .before .before .loop .i) (omega arith) (failed (c .before .upper-holds .ensures) (c .if1 .taken)))
+returns c =
+    sym (all-fails _ _ (c .before .before .before .loop .i) (omega arith) (failed (c .before .upper-holds .ensures) (c .if1 .taken)))
 
 loop-again : tie.Need-loop-again Inv-loop μ-loop
 loop-again c = (omega arith, all-more _ _ (c .before .before .before .loop .inv .1) (held (c .before .upper-holds .ensures) (c .if1 .left)))

@@ -21,10 +21,12 @@ loop-holds c = (search needs, any-none _)
 
 returns : tie.Need-returns Inv-loop μ-loop
 unfolding waitingOf
-returns c = sym (any-found _ _ (c .before .before .before .loop .p) (omega arith) (rw (c .before .process-waits .ensures) at (c .if1 .taken)))
+returns c =
+    sym (any-found _ _ (c .before .before .before .loop .p) (omega arith) (rw (c .before .process-waits .ensures) at (c .if1 .taken)))
 
 loop-again : tie.Need-loop-again Inv-loop μ-loop
-loop-again c = (omega arith, any-more _ _ (c .before .before .before .loop .inv .1) (rw (c .before .process-waits .ensures) at (c .if1 .left)))
+loop-again c =
+    (omega arith, any-more _ _ (c .before .before .before .loop .inv .1) (rw (c .before .process-waits .ensures) at (c .if1 .left)))
 
 returns-2 : tie.Need-returns-2 Inv-loop μ-loop
 unfolding waitingOf

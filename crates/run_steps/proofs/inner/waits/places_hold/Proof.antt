@@ -21,15 +21,20 @@ loop-holds : tie.Need-loop-holds Inv-loop μ-loop
 loop-holds c = (search needs, all-none _)
 
 invariants-hold-requires : tie.Need-invariants-hold-requires Inv-loop μ-loop
-invariants-hold-requires c κs = let s = c .before .before .before .before .before .before in (s .pre .0, s .pre .2 _ (omega arith), s .pre .1)
+invariants-hold-requires c κs =
+    let s = c .before .before .before .before .before .before in (s .pre .0, s .pre .2 _ (omega arith), s .pre .1)
 
 returns : tie.Need-returns Inv-loop μ-loop
 unfolding placeHolds
-returns c = sym (all-fails _ _ (c .before .before .before .before .loop .p) (omega arith) (sym (c .before .invariants-hold .ensures) ∙ not-true _ (c .if1 .taken)))
+returns c =
+    sym (all-fails _ _ (c .before .before .before .before .loop .p) (omega arith)
+    (sym (c .before .invariants-hold .ensures) ∙ not-true _ (c .if1 .taken)))
 
 loop-again : tie.Need-loop-again Inv-loop μ-loop
 unfolding placeHolds
-loop-again c = (omega arith, all-more _ _ (c .before .before .before .before .loop .inv .1) (sym (c .before .invariants-hold .ensures) ∙ not-false _ (c .if1 .left)))
+loop-again c =
+    (omega arith, all-more _ _ (c .before .before .before .before .loop .inv .1)
+    (sym (c .before .invariants-hold .ensures) ∙ not-false _ (c .if1 .left)))
 
 returns-2 : tie.Need-returns-2 Inv-loop μ-loop
 returns-2 c = sym (all-done _ _ (c .before .loop .p) (omega arith) (omega arith) (c .before .loop .inv .1))

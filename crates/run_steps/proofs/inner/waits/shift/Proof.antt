@@ -20,7 +20,8 @@ unfolding shiftedBelow
 loop-holds c = (search needs, refl, refl)
 
 -- the clock that is read
-old : (c : tie.In-loop Inv-loop μ-loop) → getD (c .before .loop .clocks) (c .before .loop .i) 0 ≡ getD (c .before .before .args .clocks .now) (c .before .loop .i) 0
+old : (c : tie.In-loop Inv-loop μ-loop)
+    → getD (c .before .loop .clocks) (c .before .loop .i) 0 ≡ getD (c .before .before .args .clocks .now) (c .before .loop .i) 0
 old c = rw (c .before .loop .inv .2) (unmoved _ _ (c .before .loop .i) (c .before .loop .i) (omega arith))
 
 add-clocks : tie.Need-add-clocks Inv-loop μ-loop

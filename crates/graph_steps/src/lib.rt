@@ -1,2 +1,0 @@
-// What a step and a wait of one graph ask, and what they leave.
-pub mod inner;

@@ -1,0 +1,70 @@
+use Prim.Native.Nat.{ℕ, zero, suc, _+_, _-_, _*_, _/_, _%_, _≤_, _<_}
+use mathlib.Core.Path.{_≡_, refl, sym, ap, _∙_}
+use native.Mathlib.Omega.{arith}
+use lib.ListN.{length, getD, set, length-set}
+use Rattle.program_graph.specs.Inner.{VarsStored}
+use Rattle.program_graph.proofs.StoredLaws.{stored-none, stored-more}
+use borrow.Author.Needs.{needs}
+use Rattle.program_graph.proofs.inner.words.put_vars.Statement.{statement}
+use Rattle.program_graph.proofs.inner.words.put_vars.Tie as tie
+use Rattle.program_graph.proofs.inner.words.put_vars.Reads as reads
+use Rattle.program_graph.proofs.inner.words.put_vars.Lts as lts
+use Rattle.grammar.proofs.inner.slots.put.Reads as put-reads
+
+abbrev Inv-loop : tie.InvT-loop
+Inv-loop ws₀ n vars v₀ ws v = (v ≤ n) × VarsStored ws vars v
+
+abbrev μ-loop : tie.MeasureT-loop
+μ-loop ws₀ n vars v₀ ws v = n - v
+
+loop-holds : tie.Need-loop-holds Inv-loop μ-loop
+loop-holds c = (search needs, stored-none _ _ (c .before .pre .0))
+
+mul-slot : tie.Need-mul-slot Inv-loop μ-loop
+mul-slot c = search needs
+
+array-copy-out-slot : tie.Need-array-copy-out-slot Inv-loop μ-loop
+array-copy-out-slot c = search needs
+
+put-requires : tie.Need-put-requires Inv-loop μ-loop
+put-requires c κs = let l = c .before .before .before in omega (arith, l .before .before .pre .1, l .loop .inv .1 .used .words)
+
+add-v : tie.Need-add-v Inv-loop μ-loop
+add-v c = search needs
+
+loop-less : tie.Need-loop-less Inv-loop μ-loop
+loop-less c = search needs
+
+loop-again : tie.Need-loop-again Inv-loop μ-loop
+loop-again c =
+    let p = c .before .before in
+    let l = p .before .before .before .before in
+    let s = l .before .before in
+    (omega arith, stored-more (l .loop .ws) (s .args .t2) (l .loop .v) _ (omega (arith, s .pre .1)) (p .put .ensures .1) refl (l .loop .inv .1) (p .put .ensures .0))
+
+same-length : tie.Need-same-length Inv-loop μ-loop
+same-length c = search needs
+
+returns : tie.Need-returns Inv-loop μ-loop
+returns c =
+    let l = c .before in
+    let s = l .before .before in
+    let e : l .loop .v ≡ s .args .n = omega arith in
+    let size : length (s .args .t2) ≡ 16 = search needs in
+    (rw (← e) (l .loop .inv .1), size)
+
+pub put-vars-spec : {M : Type 1} → statement M
+put-vars-spec =
+    tie.close
+    (tie.spec
+    Inv-loop
+    μ-loop
+    loop-holds
+    mul-slot
+    array-copy-out-slot
+    put-requires
+    add-v
+    loop-less
+    loop-again
+    same-length
+    returns)
