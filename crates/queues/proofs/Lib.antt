@@ -1,0 +1,6 @@
+pub mod QueueLaws
+pub mod MessageLaws
+pub mod ValueLaws
+pub mod FitLaws
+pub mod UsedLaws
+pub mod Theorems

@@ -1,0 +1,3 @@
+pub mod Layout
+pub mod Queues
+pub mod Fits

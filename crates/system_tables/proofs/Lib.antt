@@ -1,0 +1,9 @@
+pub mod CeilingLaws
+pub mod WordLaws
+pub mod FormedLaws
+pub mod SoundLaws
+pub mod ElsewhereLaws
+pub mod FrameLaws
+pub mod KeptLaws
+pub mod CarriedLaws
+pub mod CommunicationLaws

@@ -1,0 +1,6 @@
+pub mod Sizes
+pub mod Layout
+pub mod Words
+pub mod Ceiling
+pub mod Formed
+pub mod Sound
