@@ -21,11 +21,13 @@ parts {A} e = (ap (λ (x : Outcome A). x .answer) e, ap (λ (x : Outcome A). x .
 
 -- ---- what is so of an outcome that refuses, and of one that is accepted, is so of the call's
 -- a call that asks a check
-pub done-if : (P : Outcome Done → Type 0) (c : Done) (t u : List ℕ) → ((r : Refusal) → P (notDone r t)) → (c ≡ Done.Accepted → P (doneWith u)) → P (doneIf c t u)
+pub done-if : (P : Outcome Done → Type 0) (c : Done) (t u : List ℕ) → ((r : Refusal) → P (notDone r t))
+    → (c ≡ Done.Accepted → P (doneWith u)) → P (doneIf c t u)
 done-if P Done.Accepted t u h k = k refl
 done-if P (Done.Refused r) t u h k = h r
 
-pub placed-if : (P : Outcome Placed → Type 0) (c : Done) (t : List ℕ) (n : ℕ) (u : List ℕ) → ((r : Refusal) → P (refusedWith r t)) → (c ≡ Done.Accepted → P (placedAt n u)) → P (placedIf c t n u)
+pub placed-if : (P : Outcome Placed → Type 0) (c : Done) (t : List ℕ) (n : ℕ) (u : List ℕ) → ((r : Refusal) → P (refusedWith r t))
+    → (c ≡ Done.Accepted → P (placedAt n u)) → P (placedIf c t n u)
 placed-if P Done.Accepted t n u h k = k refl
 placed-if P (Done.Refused r) t n u h k = h r
 
@@ -36,11 +38,14 @@ done-refused t after e = ap (λ (d : Done). doneIf d t after) (sym e)
 pub done-accepted : {c : Done} (t : List ℕ) {u after : List ℕ} → c ≡ Done.Accepted → u ≡ after → doneWith u ≡ doneIf c t after
 done-accepted t {u} {after} e h = ap doneWith h ∙ ap (λ (d : Done). doneIf d t after) (sym e)
 
-pub placed-refused : {c : Done} {r : Refusal} (t : List ℕ) (n : ℕ) (after : List ℕ) → c ≡ Done.Refused r → refusedWith r t ≡ placedIf c t n after
+pub placed-refused : {c : Done} {r : Refusal} (t : List ℕ) (n : ℕ) (after : List ℕ) → c ≡ Done.Refused r
+    → refusedWith r t ≡ placedIf c t n after
 placed-refused t n after e = ap (λ (d : Done). placedIf d t n after) (sym e)
 
-pub placed-accepted : {c : Done} (t : List ℕ) {n m : ℕ} {u after : List ℕ} → c ≡ Done.Accepted → n ≡ m → u ≡ after → placedAt n u ≡ placedIf c t m after
-placed-accepted t {n} {m} {u} {after} e k h = ap (λ (i : ℕ). placedAt i u) k ∙ ap (placedAt m) h ∙ ap (λ (d : Done). placedIf d t m after) (sym e)
+pub placed-accepted : {c : Done} (t : List ℕ) {n m : ℕ} {u after : List ℕ} → c ≡ Done.Accepted → n ≡ m → u ≡ after
+    → placedAt n u ≡ placedIf c t m after
+placed-accepted t {n} {m} {u} {after} e k h =
+    ap (λ (i : ℕ). placedAt i u) k ∙ ap (placedAt m) h ∙ ap (λ (d : Done). placedIf d t m after) (sym e)
 
 pub words-of : (t : List ℕ) (b : Bool) → wellFormed t b ≡ true → Words t
 unfolding wellFormed

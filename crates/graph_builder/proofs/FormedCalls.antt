@@ -32,11 +32,15 @@ use Rattle.graph_edits.proofs.TransitionFormed.{GuardFits, transition-formed}
 use Rattle.graph_tables.specs.declared.answers.Placed.{Placed}
 use Rattle.graph_tables.specs.declared.answers.Done.{Done}
 use Rattle.graph_tables.specs.declared.answers.Done.the-variants.{Accepted}
-use Rattle.graph_checks.specs.Checks.{varCheck, clockCheck, actionCheck, processCheck, resetCheck, effectCheck, sendCheck, receiveCheck, locationCheck, initialCheck, transitionCheck}
-use Rattle.graph_builder.specs.Building.{Outcome, doneIf, placedIf, payloadOf, newVarOf, newClockOf, newActionOf, newProcessOf, addResetOf, addEffectOf, newSendOf, newReceiveOf, newTimedLocationOf, newInitialOf, guardOf, addTransitionOf}
+use Rattle.graph_checks.specs.Checks.{varCheck, clockCheck, actionCheck, processCheck, resetCheck, effectCheck, sendCheck, receiveCheck}
+use Rattle.graph_checks.specs.Checks.{locationCheck, initialCheck, transitionCheck}
+use Rattle.graph_builder.specs.Building.{Outcome, doneIf, placedIf, payloadOf, newVarOf, newClockOf, newActionOf, newProcessOf}
+use Rattle.graph_builder.specs.Building.{addResetOf, addEffectOf, newSendOf, newReceiveOf, newTimedLocationOf, newInitialOf, guardOf}
+use Rattle.graph_builder.specs.Building.{addTransitionOf}
 use Rattle.graph_builder.proofs.BuildingLaws.{done-if, placed-if}
 use Rattle.graph_checks.proofs.ReadyActions.{reset-ready, effect-ready, send-ready, receive-ready}
-use Rattle.graph_checks.proofs.ReadyParts.{var-ready, clock-ready, action-ready, process-ready, location-ready, initial-ready, GuardReady, transition-ready}
+use Rattle.graph_checks.proofs.ReadyParts.{var-ready, clock-ready, action-ready, process-ready, location-ready, initial-ready, GuardReady}
+use Rattle.graph_checks.proofs.ReadyParts.{transition-ready}
 
 abbrev WellFormed : List ℕ → Type 0
 WellFormed t = wellFormed t true ≡ true
@@ -45,7 +49,8 @@ WellFormed t = wellFormed t true ≡ true
 done-stays : (c : Done) (t u : List ℕ) → WellFormed t → (c ≡ Accepted → Formed u) → WellFormed (doneIf c t u .table)
 done-stays c t u h k = done-if (λ (o : Outcome Done). WellFormed (o .table)) c t u (λ r. h) (λ e. together u (k e))
 
-placed-stays : (c : Done) (t : List ℕ) (n : ℕ) (u : List ℕ) → WellFormed t → (c ≡ Accepted → Formed u) → WellFormed (placedIf c t n u .table)
+placed-stays : (c : Done) (t : List ℕ) (n : ℕ) (u : List ℕ) → WellFormed t → (c ≡ Accepted → Formed u)
+    → WellFormed (placedIf c t n u .table)
 placed-stays c t n u h k = placed-if (λ (o : Outcome Placed). WellFormed (o .table)) c t n u (λ r. h) (λ e. together u (k e))
 
 -- a value's kind and bits
@@ -133,7 +138,8 @@ known-small t a few h = by (eqb a epsilon) refl h
     by true e k = omega (arith, eqb-true a epsilon e)
     by false e k = omega (arith, ltb-true a (actionCount t) k)
 
-key-formed : (t : List ℕ) (pre a post : ℕ) → Formed t → pre < locationCount t → post < locationCount t → actionKnown t a ≡ true → keyFormed t (keyWith pre a post) ≡ true
+key-formed : (t : List ℕ) (pre a post : ℕ) → Formed t → pre < locationCount t → post < locationCount t → actionKnown t a ≡ true
+    → keyFormed t (keyWith pre a post) ≡ true
 unfolding keyFormed
 key-formed t pre a post f from to by =
     let small : a < word32 = known-small t a (f .counts .actions) by in
@@ -142,7 +148,8 @@ key-formed t pre a post f from to by =
     and-both (rw (key-pre pre a post small r) (lt-ltb _ _ from))
     (and-both (rw (key-post pre a post small r) (lt-ltb _ _ to)) (rw (key-action pre a post small r) by))
 
-pub guard-fits : (t : List ℕ) (guarded : Bool) (ws : List ℕ) → (guarded ≡ true → GuardReady t ws) → (length (guardOf guarded ws) ≤ itemRoom) × GuardFits t (guardOf guarded ws)
+pub guard-fits : (t : List ℕ) (guarded : Bool) (ws : List ℕ) → (guarded ≡ true → GuardReady t ws)
+    → (length (guardOf guarded ws) ≤ itemRoom) × GuardFits t (guardOf guarded ws)
 guard-fits t true ws g = let r = g refl in (r .short, λ some. (r .typed, r .no-draws))
 guard-fits t false ws g = (omega arith, λ some. absurd (omega arith))
 
@@ -154,4 +161,5 @@ transition-stays t h pre a post guarded ws l fit =
     let r = transition-ready t pre a post guarded ws l e in
     let f = apart t true h in
     let g = guard-fits t guarded ws (r .guard) in
-    transition-formed t (keyWith pre a post) (guardOf guarded ws) l f (r .room) (key-formed t pre a post f (r .from) (r .to) (r .by)) (g .0) (g .1) (r .limits .0) (r .limits .1) fit)
+    transition-formed t (keyWith pre a post) (guardOf guarded ws) l f (r .room) (key-formed t pre a post f (r .from) (r .to) (r .by)) (g .0)
+    (g .1) (r .limits .0) (r .limits .1) fit)

@@ -15,7 +15,8 @@ use Rattle.graph_edits.specs.Lists.{listOf, insertSorted, changedAt, variableAt
 use Rattle.graph_edits.specs.Lists.{StoredAction, plain, send, receive, actionAt, StoredTransition}
 use Rattle.graph_edits.proofs.LimitLaws.{sides}
 use Rattle.graph_edits.proofs.PartsKept.{plain-at, send-at, receive-at}
-use Rattle.graph_builder.specs.Chains.{Call, new-var, new-clock, new-action, new-process, add-reset, add-effect, new-send, new-receive}
+use Rattle.graph_builder.specs.Chains.{Call, new-var, new-clock, new-action, new-process, add-reset, add-effect, new-send}
+use Rattle.graph_builder.specs.Chains.{new-receive}
 use Rattle.graph_builder.specs.Chains.{new-timed-location, new-initial-location, add-transition}
 use Rattle.graph_builder.specs.Reading.{Graph, graphOf, actionsNow, transitionsNow}
 use Rattle.graph_builder.specs.Reading.{withClockReset, withAssignment, inOrder, added}

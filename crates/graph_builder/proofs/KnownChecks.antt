@@ -15,7 +15,11 @@ use Rattle.graph_tables.specs.Words.{kindsOf}
 use Rattle.graph_tables.specs.Formed.{wellFormed}
 use Rattle.graph_tables.specs.declared.answers.Done.{Done}
 use Rattle.graph_tables.specs.declared.answers.Done.the-variants.{Accepted, Refused}
-use Rattle.graph_checks.specs.Checks.{refusedBy, _then_, eachBelow, onTable, varCheck, clockCheck, actionCheck, placeCheck, processCheck, limitsCheck, locationCheck, startCheck, initialCheck, plainCheck, roomForReset, resetCheck, roomForEffect, assignedCheck, actionEffectCheck, knownEffectCheck, effectCheck, typedCheck, expressionCheck, sendRoom, sendCheck, receiveCheck, endsCheck, guardCheck, ifGuarded, guardRoom, conditionsCheck, transitionCheck}
+use Rattle.graph_checks.specs.Checks.{refusedBy, _then_, eachBelow, onTable, varCheck, clockCheck, actionCheck, placeCheck, processCheck}
+use Rattle.graph_checks.specs.Checks.{limitsCheck, locationCheck, startCheck, initialCheck, plainCheck, roomForReset, resetCheck}
+use Rattle.graph_checks.specs.Checks.{roomForEffect, assignedCheck, actionEffectCheck, knownEffectCheck, effectCheck, typedCheck}
+use Rattle.graph_checks.specs.Checks.{expressionCheck, sendRoom, sendCheck, receiveCheck, endsCheck, guardCheck, ifGuarded, guardRoom}
+use Rattle.graph_checks.specs.Checks.{conditionsCheck, transitionCheck}
 
 -- it does not answer 32
 abbrev pub Known : Done → Type 0

@@ -20,19 +20,29 @@ use Rattle.graph_tables.proofs.NumberLaws.{above-ok}
 use Rattle.graph_tables.proofs.KeptLaws.{apart}
 use Rattle.graph_tables.specs.declared.answers.Done.{Done}
 use Rattle.graph_tables.specs.declared.answers.Done.the-variants.{Accepted, Refused}
-use Rattle.graph_edits.specs.Edits.{withVar, withClock, withAction, withProcess, withLocation, withReset, withEffect, withSend, withReceive, withTransition}
-use Rattle.graph_edits.specs.Lists.{changedAt, variableAt, variablesOf, placesOf, StoredLimit, invariantsOf, locationsOf, StoredAction, actionAt, actionsOf, StoredTransition, transitionsOf}
+use Rattle.graph_edits.specs.Edits.{withVar, withClock, withAction, withProcess, withLocation, withReset, withEffect, withSend, withReceive}
+use Rattle.graph_edits.specs.Edits.{withTransition}
+use Rattle.graph_edits.specs.Lists.{changedAt, variableAt, variablesOf, placesOf, StoredLimit, invariantsOf, locationsOf, StoredAction}
+use Rattle.graph_edits.specs.Lists.{actionAt, actionsOf, StoredTransition, transitionsOf}
 use Rattle.graph_edits.proofs.ExpressionLaws.{Short}
 use Rattle.graph_edits.proofs.KeyLaws.{key-pre, key-action, key-post}
 use Rattle.graph_edits.proofs.ListLaws.{list-length, transitions-list, invariants-list}
-use Rattle.graph_edits.proofs.PartsKept.{none, Kept, perhaps, variables-read, locations-read, places-read, actions-read, actions-changed, plain-at}
-use Rattle.graph_edits.proofs.EditsRead.{var-keeps, var-read, clock-keeps, process-keeps, process-read, action-keeps, action-read, send-keeps, send-read, receive-keeps, receive-read, location-keeps, placeGrows, initial-keeps, initial-invariants, initial-place, reset-keeps, reset-read, effect-keeps, effect-read, transition-keeps}
-use Rattle.graph_checks.specs.Checks.{varCheck, clockCheck, actionCheck, processCheck, resetCheck, effectCheck, sendCheck, receiveCheck, locationCheck, initialCheck, transitionCheck}
+use Rattle.graph_edits.proofs.PartsKept.{none, Kept, perhaps, variables-read, locations-read, places-read, actions-read, actions-changed}
+use Rattle.graph_edits.proofs.PartsKept.{plain-at}
+use Rattle.graph_edits.proofs.EditsRead.{var-keeps, var-read, clock-keeps, process-keeps, process-read, action-keeps, action-read}
+use Rattle.graph_edits.proofs.EditsRead.{send-keeps, send-read, receive-keeps, receive-read, location-keeps, placeGrows, initial-keeps}
+use Rattle.graph_edits.proofs.EditsRead.{initial-invariants, initial-place, reset-keeps, reset-read, effect-keeps, effect-read}
+use Rattle.graph_edits.proofs.EditsRead.{transition-keeps}
+use Rattle.graph_checks.specs.Checks.{varCheck, clockCheck, actionCheck, processCheck, resetCheck, effectCheck, sendCheck, receiveCheck}
+use Rattle.graph_checks.specs.Checks.{locationCheck, initialCheck, transitionCheck}
 use Rattle.graph_checks.proofs.ReadyActions.{reset-ready, effect-ready, send-ready, receive-ready}
-use Rattle.graph_checks.proofs.ReadyParts.{var-ready, clock-ready, action-ready, process-ready, location-ready, initial-ready, transition-ready}
+use Rattle.graph_checks.proofs.ReadyParts.{var-ready, clock-ready, action-ready, process-ready, location-ready, initial-ready}
+use Rattle.graph_checks.proofs.ReadyParts.{transition-ready}
 use Rattle.graph_builder.specs.Building.{doneIf, placedIf, payloadOf, guardOf}
-use Rattle.graph_builder.specs.Chains.{new-var, new-clock, new-action, new-process, add-reset, add-effect, new-send, new-receive, new-timed-location, new-initial-location, add-transition}
-use Rattle.graph_builder.specs.Reading.{Graph, graphOf, variablesNow, locationsNow, processesNow, actionsNow, transitionsNow, withClockReset, withAssignment, inOrder, added}
+use Rattle.graph_builder.specs.Chains.{new-var, new-clock, new-action, new-process, add-reset, add-effect, new-send, new-receive}
+use Rattle.graph_builder.specs.Chains.{new-timed-location, new-initial-location, add-transition}
+use Rattle.graph_builder.specs.Reading.{Graph, graphOf, variablesNow, locationsNow, processesNow, actionsNow, transitionsNow}
+use Rattle.graph_builder.specs.Reading.{withClockReset, withAssignment, inOrder, added}
 use Rattle.graph_builder.proofs.FormedCalls.{known-small, guard-fits}
 
 -- graphs with the same lists are one

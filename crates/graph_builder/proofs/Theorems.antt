@@ -26,16 +26,25 @@ use Rattle.graph_tables.specs.declared.answers.VarType.{VarType}
 use Rattle.graph_tables.specs.declared.answers.VarType.the-variants as VarType
 use Rattle.graph_edits.specs.Lists.{listOf, Before}
 use Rattle.graph_edits.proofs.KeyLaws.{key-back, key-order}
-use Rattle.graph_checks.specs.Checks.{varCheck, clockCheck, actionCheck, processCheck, resetCheck, effectCheck, sendCheck, receiveCheck, locationCheck, initialCheck, transitionCheck}
+use Rattle.graph_checks.specs.Checks.{varCheck, clockCheck, actionCheck, processCheck, resetCheck, effectCheck, sendCheck, receiveCheck}
+use Rattle.graph_checks.specs.Checks.{locationCheck, initialCheck, transitionCheck}
 use Rattle.graph_checks.proofs.CheckLaws.{unless-on}
-use Rattle.graph_builder.specs.Building.{Outcome, doneIf, placedIf, emptyOf, newVarOf, varTypeOf, newClockOf, newActionOf, newProcessOf, buildOf, addResetOf, addEffectOf, newSendOf, newReceiveOf, newTimedLocationOf, newInitialOf, addTransitionOf}
-use Rattle.graph_builder.specs.Chains.{Call, new-var, new-clock, new-action, new-process, add-reset, add-effect, new-send, new-receive, new-timed-location, new-initial-location, add-transition, after, answerOf, Fits, afterAll, AllFit}
+use Rattle.graph_builder.specs.Building.{Outcome, doneIf, placedIf, emptyOf, newVarOf, varTypeOf, newClockOf, newActionOf}
+use Rattle.graph_builder.specs.Building.{newProcessOf, buildOf, addResetOf, addEffectOf, newSendOf, newReceiveOf, newTimedLocationOf}
+use Rattle.graph_builder.specs.Building.{newInitialOf, addTransitionOf}
+use Rattle.graph_builder.specs.Chains.{Call, new-var, new-clock, new-action, new-process, add-reset, add-effect, new-send}
+use Rattle.graph_builder.specs.Chains.{new-receive, new-timed-location, new-initial-location, add-transition, after, answerOf, Fits}
+use Rattle.graph_builder.specs.Chains.{afterAll, AllFit}
 use Rattle.graph_builder.specs.Reading.{graphOf, emptyGraph, added, addedAll}
 use Rattle.graph_builder.proofs.BuildingLaws.{done-if, placed-if}
-use Rattle.graph_builder.proofs.FormedCalls.{var-stays, clock-stays, action-stays, process-stays, reset-stays, effect-stays, send-stays, receive-stays, timed-location-stays, initial-stays, transition-stays}
-use Rattle.graph_builder.proofs.ReadingLaws.{done-reads, placed-reads, var-reads, clock-reads, process-reads, action-reads, send-reads, receive-reads, location-reads, initial-reads, reset-reads, effect-reads, transition-reads}
+use Rattle.graph_builder.proofs.FormedCalls.{var-stays, clock-stays, action-stays, process-stays, reset-stays, effect-stays}
+use Rattle.graph_builder.proofs.FormedCalls.{send-stays, receive-stays, timed-location-stays, initial-stays, transition-stays}
+use Rattle.graph_builder.proofs.ReadingLaws.{done-reads, placed-reads, var-reads, clock-reads, process-reads, action-reads}
+use Rattle.graph_builder.proofs.ReadingLaws.{send-reads, receive-reads, location-reads, initial-reads, reset-reads, effect-reads}
+use Rattle.graph_builder.proofs.ReadingLaws.{transition-reads}
 use Rattle.graph_builder.proofs.KeptParts.{Kept, kept-same, added-keeps, NoneFewer, counts-kept}
-use Rattle.graph_builder.proofs.KnownChecks.{Known, var-known, clock-known, action-known, process-known, location-known, initial-known, reset-known, effect-known, send-known, receive-known, transition-known}
+use Rattle.graph_builder.proofs.KnownChecks.{Known, var-known, clock-known, action-known, process-known, location-known}
+use Rattle.graph_builder.proofs.KnownChecks.{initial-known, reset-known, effect-known, send-known, receive-known, transition-known}
 
 -- a table begins with its six counts
 six-words : (P : List ℕ → Type 0)

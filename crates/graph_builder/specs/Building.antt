@@ -18,8 +18,10 @@ use Rattle.graph_tables.specs.declared.handed.Limits.{Limits}
 use Rattle.graph_tables.specs.declared.handed.Vars.{Vars}
 use Rattle.graph_tables.specs.Words.{variableCount, clockCount, locationCount, actionCount, processCount, kindAt, keyWith}
 use Rattle.graph_tables.specs.Formed.{wellFormed}
-use Rattle.graph_edits.specs.Edits.{withVar, withClock, withAction, withProcess, withLocation, withReset, withEffect, withSend, withReceive, withTransition}
-use Rattle.graph_checks.specs.Checks.{varCheck, clockCheck, actionCheck, processCheck, resetCheck, effectCheck, sendCheck, receiveCheck, locationCheck, initialCheck, transitionCheck}
+use Rattle.graph_edits.specs.Edits.{withVar, withClock, withAction, withProcess, withLocation, withReset, withEffect, withSend, withReceive}
+use Rattle.graph_edits.specs.Edits.{withTransition}
+use Rattle.graph_checks.specs.Checks.{varCheck, clockCheck, actionCheck, processCheck, resetCheck, effectCheck, sendCheck, receiveCheck}
+use Rattle.graph_checks.specs.Checks.{locationCheck, initialCheck, transitionCheck}
 use Rattle.graph_tables.specs.declared.answers.Placed.{Placed}
 use Rattle.graph_tables.specs.declared.answers.Placed.the-variants as Placed
 use Rattle.graph_tables.specs.declared.answers.Done.{Done}

@@ -8,7 +8,8 @@ use Rattle.graph_tables.specs.declared.handed.Limits.{Limits}
 use Rattle.graph_tables.specs.declared.handed.Vars.{Vars}
 use Rattle.graph_tables.specs.Answers.{doneNumber, placedNumber}
 use Rattle.graph_edits.specs.Edits.{LimitsFit}
-use Rattle.graph_builder.specs.Building.{newVarOf, newClockOf, newActionOf, newProcessOf, addResetOf, addEffectOf, newSendOf, newReceiveOf, newTimedLocationOf, newInitialOf, addTransitionOf}
+use Rattle.graph_builder.specs.Building.{newVarOf, newClockOf, newActionOf, newProcessOf, addResetOf, addEffectOf, newSendOf}
+use Rattle.graph_builder.specs.Building.{newReceiveOf, newTimedLocationOf, newInitialOf, addTransitionOf}
 
 -- a call, with what is handed to it
 pub data Call : Type 0 where

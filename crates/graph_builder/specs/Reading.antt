@@ -8,9 +8,11 @@ use Rattle.grammar.specs.declared.values.Val.{Val}
 use Rattle.graph_tables.specs.declared.handed.Limits.{Limits}
 use Rattle.graph_tables.specs.Handed.{handedVar}
 use Rattle.graph_tables.specs.Words.{clockCount}
-use Rattle.graph_edits.specs.Lists.{listOf, insertSorted, changedAt, variablesOf, placesOf, StoredLimit, locationsOf, sortedLimits, StoredAction, plain, send, receive, actionsOf, StoredTransition, keyIn, transitionsOf}
+use Rattle.graph_edits.specs.Lists.{listOf, insertSorted, changedAt, variablesOf, placesOf, StoredLimit, locationsOf, sortedLimits}
+use Rattle.graph_edits.specs.Lists.{StoredAction, plain, send, receive, actionsOf, StoredTransition, keyIn, transitionsOf}
 use Rattle.graph_builder.specs.Building.{guardOf}
-use Rattle.graph_builder.specs.Chains.{Call, new-var, new-clock, new-action, new-process, add-reset, add-effect, new-send, new-receive, new-timed-location, new-initial-location, add-transition, after, answerOf}
+use Rattle.graph_builder.specs.Chains.{Call, new-var, new-clock, new-action, new-process, add-reset, add-effect, new-send}
+use Rattle.graph_builder.specs.Chains.{new-receive, new-timed-location, new-initial-location, add-transition, after, answerOf}
 
 -- a graph, part by part; the number of a part is its place in its list
 pub record Graph : Type 0 where

@@ -13,26 +13,37 @@ use lib.ListN.{length, getD, set, length-set}
 use lib.Seq.{getD-set-same, getD-set-other}
 use Rattle.laws.proofs.Tests.{never}
 use Rattle.grammar.specs.Slots.{valOf}
-use Rattle.graph_tables.specs.Layout.{variablesCell, clocksCell, locationsCell, actionsCell, processesCell, transitionsCell, kindsStart, transitionsStart, guardsStart, effectsStart, actionWidth, groupWidth, varsFrom, lengthsFrom, kindCell, valueCell, placeCell, invariantsCell, actionRow, resetsCell, effectsCell, resetCell, varCell, lengthCell, groupStart}
-use Rattle.graph_tables.specs.Sizes.{processRoom, locationRoom, actionRoom, transitionRoom, variableRoom, limitRoom, effectRoom, resetRoom, messageRoom, itemRoom, plainKind, sendKind, receiveKind}
+use Rattle.graph_tables.specs.Layout.{variablesCell, clocksCell, locationsCell, actionsCell, processesCell, transitionsCell, kindsStart}
+use Rattle.graph_tables.specs.Layout.{transitionsStart, guardsStart, effectsStart, actionWidth, groupWidth, varsFrom, lengthsFrom, kindCell}
+use Rattle.graph_tables.specs.Layout.{valueCell, placeCell, invariantsCell, actionRow, resetsCell, effectsCell, resetCell, varCell}
+use Rattle.graph_tables.specs.Layout.{lengthCell, groupStart}
+use Rattle.graph_tables.specs.Sizes.{processRoom, locationRoom, actionRoom, transitionRoom, variableRoom, limitRoom, effectRoom, resetRoom}
+use Rattle.graph_tables.specs.Sizes.{messageRoom, itemRoom, plainKind, sendKind, receiveKind}
 use Rattle.graph_tables.specs.declared.handed.Limits.{Limits}
 use Rattle.graph_tables.specs.declared.handed.Vars.{Vars}
 use Rattle.graph_tables.specs.Handed.{handedVar}
-use Rattle.graph_tables.specs.Words.{Words, variableCount, locationCount, actionCount, processCount, transitionCount, placeAt, actionKind, resetCount, effectCount, keyOf, invariantGroup}
+use Rattle.graph_tables.specs.Words.{Words, variableCount, locationCount, actionCount, processCount, transitionCount, placeAt, actionKind}
+use Rattle.graph_tables.specs.Words.{resetCount, effectCount, keyOf, invariantGroup}
 use Rattle.graph_tables.proofs.KeptLaws.{Formed}
-use Rattle.graph_edits.specs.Edits.{withVar, withClock, withLimits, withExpressions, withTargets, withLocation, withProcess, actionPut, withAction, withReset, withEffect, withSend, withReceive, transitionPlace, withTransition}
-use Rattle.graph_edits.specs.Lists.{listOf, insertSorted, variableAt, invariantsOf, sortedLimits, resetsOf, effectsOf, plain, send, receive, actionAt}
+use Rattle.graph_edits.specs.Edits.{withVar, withClock, withLimits, withExpressions, withTargets, withLocation, withProcess}
+use Rattle.graph_edits.specs.Edits.{actionPut, withAction, withReset, withEffect, withSend, withReceive, transitionPlace}
+use Rattle.graph_edits.specs.Edits.{withTransition}
+use Rattle.graph_edits.specs.Lists.{listOf, insertSorted, variableAt, invariantsOf, sortedLimits, resetsOf, effectsOf, plain, send}
+use Rattle.graph_edits.specs.Lists.{receive, actionAt}
 use Rattle.graph_edits.proofs.GrownFormed.{Around}
-use Rattle.graph_edits.proofs.SpareFormed.{Spare, Agrees, spare-kind, spare-value, spare-place, spare-action, spare-item, spare-invariants, spare-group, set-agrees}
+use Rattle.graph_edits.proofs.SpareFormed.{Spare, Agrees, spare-kind, spare-value, spare-place, spare-action, spare-item}
+use Rattle.graph_edits.proofs.SpareFormed.{spare-invariants, spare-group, set-agrees}
 use Rattle.graph_edits.proofs.ExpressionLaws.{Message, Short, message, targets-words, targets-other}
-use Rattle.graph_edits.proofs.LocationFormed.{limited-words, limited-same, put-words as location-words, put-count as location-count, put-same as location-same}
+use Rattle.graph_edits.proofs.LocationFormed.{limited-words, limited-same, put-words as location-words, put-count as location-count}
+use Rattle.graph_edits.proofs.LocationFormed.{put-same as location-same}
 use Rattle.graph_edits.proofs.ResetFormed.{before as reset-before, after as reset-after, around as reset-around}
 use Rattle.graph_edits.proofs.EffectFormed.{row as effect-row, around as effect-around}
 use Rattle.graph_edits.proofs.TransitionFormed.{put-words, put-count, put-same}
 use Rattle.graph_edits.proofs.PlaceLaws.{place-bound}
 use Rattle.graph_edits.proofs.ListLaws.{resets-list, effects-list, send-list, receive-list, invariants-list}
 use Rattle.graph_edits.proofs.ActionFormed.{put-row}
-use Rattle.graph_edits.proofs.PartsKept.{none, Kept, plain-at, send-at, receive-at, was, invariants-same, resets-same, effects-same, action-stays, same-kept, raised-kept, around-kept}
+use Rattle.graph_edits.proofs.PartsKept.{none, Kept, plain-at, send-at, receive-at, was, invariants-same, resets-same, effects-same}
+use Rattle.graph_edits.proofs.PartsKept.{action-stays, same-kept, raised-kept, around-kept}
 
 -- ---- a variable, a clock, a process more
 pub var-keeps : (t : List ℕ) (kind value : ℕ) → Formed t → variableCount t < variableRoom
@@ -86,7 +97,8 @@ put-keeps : (t w : List ℕ) (kind count : ℕ) → Formed t → actionCount t <
     → Kept (eqb actionsCell) none t (withAction w kind count)
 put-keeps t w kind count f room whole agrees =
     subst (λ (n : ℕ). Kept (eqb actionsCell) none t (actionPut w n kind count)) (sym (agrees actionsCell (λ s. omega arith)))
-    (raised-kept t (set (set (set w (actionRow n) kind) (resetsCell n) 0) (effectsCell n) count) actionsCell f (omega arith) (simp length-set whole)
+    (raised-kept t (set (set (set w (actionRow n) kind) (resetsCell n) 0) (effectsCell n) count) actionsCell f (omega arith)
+    (simp length-set whole)
     (set-agrees t (set (set w (actionRow n) kind) (resetsCell n) 0) (effectsCell n) count (spare 2 (omega arith))
     (set-agrees t (set w (actionRow n) kind) (resetsCell n) 0 (spare 1 (omega arith))
     (set-agrees t w (actionRow n) kind (simp add-zero at (spare 0 (omega arith))) agrees))))
@@ -353,7 +365,8 @@ transition-keeps t key ws l f room short few = record {
     count = put-count t p n key ws l f refl least room few short
 
     -- a word that is of no transition
-    same : (j : ℕ) → (j ≡ transitionsCell → ⊥) × (transitionsStart ≤ j → groupStart transitionRoom ≤ j) × (guardsStart ≤ j → effectsStart ≤ j)
+    same : (j : ℕ)
+        → (j ≡ transitionsCell → ⊥) × (transitionsStart ≤ j → groupStart transitionRoom ≤ j) × (guardsStart ≤ j → effectsStart ≤ j)
         → getD u j 0 ≡ getD t j 0
     same j h =
         put-same t p n key ws l f refl least room few short j

@@ -9,26 +9,35 @@ use native.Mathlib.Nat.{add-zero}
 use native.Mathlib.Omega.{arith}
 use borrow.Author.Tests.{lt-ltb, le-ltb}
 use lib.ListN.{length, getD}
-use Rattle.graph_tables.specs.Layout.{actionsCell, transitionsCell, limitsStart, effectsStart, transitionWidth, limitWidth, groupWidth, varCell, lengthCell, transitionRow, groupStart, limitRow, lowerCell, upperCell, guardSlot, effectSlot}
-use Rattle.graph_tables.specs.Sizes.{locationRoom, actionRoom, transitionRoom, limitRoom, groupRoom, effectRoom, resetRoom, messageRoom, itemRoom, sendKind, receiveKind}
+use Rattle.graph_tables.specs.Layout.{actionsCell, transitionsCell, limitsStart, effectsStart, transitionWidth, limitWidth, groupWidth}
+use Rattle.graph_tables.specs.Layout.{varCell, lengthCell, transitionRow, groupStart, limitRow, lowerCell, upperCell, guardSlot, effectSlot}
+use Rattle.graph_tables.specs.Sizes.{locationRoom, actionRoom, transitionRoom, limitRoom, groupRoom, effectRoom, resetRoom, messageRoom}
+use Rattle.graph_tables.specs.Sizes.{itemRoom, sendKind, receiveKind}
 use Rattle.graph_tables.specs.declared.handed.Limits.{Limits}
 use Rattle.graph_tables.specs.declared.handed.Vars.{Vars}
 use Rattle.graph_tables.specs.Handed.{handedClock, handedRange, handedVar}
-use Rattle.graph_tables.specs.Words.{Words, locationCount, actionCount, transitionCount, resetCount, effectCount, resetAt, effectVar, effectLength, effectItems, keyOf, guardLength, limitCount, preOf, actionOf, postOf, invariantGroup, boundWord}
+use Rattle.graph_tables.specs.Words.{Words, locationCount, actionCount, transitionCount, resetCount, effectCount, resetAt, effectVar}
+use Rattle.graph_tables.specs.Words.{effectLength, effectItems, keyOf, guardLength, limitCount, preOf, actionOf, postOf, invariantGroup}
+use Rattle.graph_tables.specs.Words.{boundWord}
 use Rattle.graph_tables.specs.Sound.{TransitionSound}
 use Rattle.graph_tables.proofs.SoundLaws.{sound}
 use Rattle.graph_tables.proofs.KeptLaws.{Formed, together, Moved, GroupMoved, items-moved, clock-moved, lower-moved, upper-moved}
 use Rattle.graph_edits.specs.Rows.{placeOf, gapOf}
-use Rattle.graph_edits.specs.Edits.{limitPlace, actionPut, withLimits, withLocation, withReset, withEffect, withExpressions, withSend, withTargets, withReceive, withRow, withGroup, transitionPlace, withTransition}
-use Rattle.graph_edits.specs.Lists.{listOf, insertSorted, changedAt, StoredLimit, limitAt, limitsOf, invariantsOf, handedLimit, sortedLimits, resetsOf, effectAt, effectsOf, expressionsOf, targetsOf, StoredTransition, keyIn, transitionOf, transitionsOf}
+use Rattle.graph_edits.specs.Edits.{limitPlace, actionPut, withLimits, withLocation, withReset, withEffect, withExpressions, withSend}
+use Rattle.graph_edits.specs.Edits.{withTargets, withReceive, withRow, withGroup, transitionPlace, withTransition}
+use Rattle.graph_edits.specs.Lists.{listOf, insertSorted, changedAt, StoredLimit, limitAt, limitsOf, invariantsOf, handedLimit}
+use Rattle.graph_edits.specs.Lists.{sortedLimits, resetsOf, effectAt, effectsOf, expressionsOf, targetsOf, StoredTransition, keyIn}
+use Rattle.graph_edits.specs.Lists.{transitionOf, transitionsOf}
 use Rattle.graph_edits.proofs.PlaceLaws.{place-bound, place-above, place-below, place-same}
 use Rattle.graph_edits.proofs.KeyLaws.{key-back}
 use Rattle.graph_edits.proofs.LimitLaws.{Put, bound-back, next}
 use Rattle.graph_edits.proofs.ResetFormed.{before as reset-before, count as reset-count, here as reset-here, above as reset-above}
-use Rattle.graph_edits.proofs.EffectFormed.{row as effect-row, items as effect-other, all-words as effect-words, count as effect-count, variable as effect-var, same-items as effect-items}
+use Rattle.graph_edits.proofs.EffectFormed.{row as effect-row, items as effect-other, all-words as effect-words}
+use Rattle.graph_edits.proofs.EffectFormed.{count as effect-count, variable as effect-var, same-items as effect-items}
 use Rattle.graph_edits.proofs.ExpressionLaws.{apart-row, Message, Short, message, targets-words, targets-other, targets-var}
 use Rattle.graph_edits.proofs.ActionFormed.{put-other as action-other, put-words as action-words, put-row as action-row}
-use Rattle.graph_edits.proofs.TransitionFormed.{opened-words, rowed-words, put-words, put-count, limits as put-others, put-same, put-key, put-limits, put-items, row-moved, limits-moved, items-moved as guards-moved}
+use Rattle.graph_edits.proofs.TransitionFormed.{opened-words, rowed-words, put-words, put-count, limits as put-others, put-same}
+use Rattle.graph_edits.proofs.TransitionFormed.{put-key, put-limits, put-items, row-moved, limits-moved, items-moved as guards-moved}
 use Rattle.graph_edits.proofs.LocationFormed.{put-group as location-group, put-number as location-number}
 
 -- ---- lists of rows
@@ -37,7 +46,8 @@ module _ {A : Type 0} where
   pub list-same : (f h : ℕ → A) (n : ℕ) → ((i : ℕ) → i < n → h i ≡ f i) → listOf h n ≡ listOf f n
   unfolding listOf
   list-same f h zero e = refl
-  list-same f h (suc n) e = rw (e zero (omega arith), list-same (λ (i : ℕ). f (suc i)) (λ (i : ℕ). h (suc i)) n (λ i l. e (suc i) (omega arith)))
+  list-same f h (suc n) e =
+      rw (e zero (omega arith), list-same (λ (i : ℕ). f (suc i)) (λ (i : ℕ). h (suc i)) n (λ i l. e (suc i) (omega arith)))
 
   -- a row more at the end
   pub list-more : (f h : ℕ → A) (n : ℕ) (x : A) → ((i : ℕ) → i < n → h i ≡ f i) → h n ≡ x → listOf h (n + 1) ≡ listOf f n ++ (x ∷ [])
@@ -46,7 +56,8 @@ module _ {A : Type 0} where
     where
       by : (f h : ℕ → A) (n : ℕ) → ((i : ℕ) → i < n → h i ≡ f i) → h n ≡ x → listOf h (suc n) ≡ listOf f n ++ (x ∷ [])
       by f h zero e here = rw here
-      by f h (suc n) e here = rw (e zero (omega arith), by (λ (i : ℕ). f (suc i)) (λ (i : ℕ). h (suc i)) n (λ i l. e (suc i) (omega arith)) here)
+      by f h (suc n) e here =
+          rw (e zero (omega arith), by (λ (i : ℕ). f (suc i)) (λ (i : ℕ). h (suc i)) n (λ i l. e (suc i) (omega arith)) here)
 
   -- a row more at the end, or none more
   pub list-grown : (f h : ℕ → A) (n m : ℕ) (more : Bool) → m ≡ cond more (n + 1) n → ((i : ℕ) → i < n → h i ≡ f i)
@@ -75,8 +86,10 @@ module _ {A : Type 0} where
   list-length f (suc n) = ap suc (list-length (λ (i : ℕ). f (suc i)) n)
 
   -- a row more before place p, where the numbers before p are at most its own and the one at p is greater
-  put-list : (number : A → ℕ) (f h : ℕ → A) (n p : ℕ) (x : A) → p ≤ n → (p < n → number x < number (f p)) → ((i : ℕ) → i < p → number (f i) ≤ number x)
-      → ((i : ℕ) → i < p → h i ≡ f i) → h p ≡ x → ((i : ℕ) → p ≤ i → i < n → h (suc i) ≡ f i) → listOf h (suc n) ≡ insertSorted number x (listOf f n)
+  put-list : (number : A → ℕ) (f h : ℕ → A) (n p : ℕ) (x : A) → p ≤ n → (p < n → number x < number (f p))
+      → ((i : ℕ) → i < p → number (f i) ≤ number x)
+      → ((i : ℕ) → i < p → h i ≡ f i) → h p ≡ x → ((i : ℕ) → p ≤ i → i < n → h (suc i) ≡ f i)
+      → listOf h (suc n) ≡ insertSorted number x (listOf f n)
   unfolding listOf insertSorted
   put-list number f h zero zero x bound above below before here behind = rw here
   put-list number f h zero (suc p) x bound above below before here behind = absurd (omega arith)
@@ -91,7 +104,8 @@ module _ {A : Type 0} where
       rw (
         le-ltb (number x) (number (f zero)) (below zero (omega arith)),
         before zero (omega arith),
-        put-list number (λ (i : ℕ). f (suc i)) (λ (i : ℕ). h (suc i)) n p x (omega arith) (λ l. above (omega arith)) (λ i l. below (suc i) (omega arith))
+        put-list number (λ (i : ℕ). f (suc i)) (λ (i : ℕ). h (suc i)) n p x (omega arith) (λ l. above (omega arith))
+        (λ i l. below (suc i) (omega arith))
             (λ i l. before (suc i) (omega arith)) here (λ i l m. behind (suc i) (omega arith) (omega arith)),
       )
 
@@ -133,11 +147,14 @@ module _ (t : List ℕ) (g : ℕ) (l : Limits) (words : Words t) (known : g < gr
       p : ℕ
       p = limitPlace v g n (handedClock l n)
 
-      new : Put v u (limitRow g p) (limitRow g n) (handedClock l n) (boundWord (handedRange l n .lower)) (boundWord (handedRange l n .upper))
+      new : Put v u (limitRow g p) (limitRow g n) (handedClock l n) (boundWord (handedRange l n .lower))
+          (boundWord (handedRange l n .upper))
       new = next t g l words known n few
 
       before : (i : ℕ) → i < p → limitAt u g i ≡ limitAt v g i
-      before i m = rw (new .before (limitRow g i) (omega arith), new .before (lowerCell g i) (omega arith), new .before (upperCell g i) (omega arith))
+      before i m =
+          rw (new .before (limitRow g i) (omega arith), new .before (lowerCell g i) (omega arith), new .before (upperCell g i)
+          (omega arith))
 
       here : limitAt u g p ≡ handedLimit l n
       here =
@@ -148,7 +165,8 @@ module _ (t : List ℕ) (g : ℕ) (l : Limits) (words : Words t) (known : g < gr
           let none : limitRow g (i + 1) ≡ limitRow g i + limitWidth = omega arith in
           let one : lowerCell g (i + 1) ≡ lowerCell g i + limitWidth = omega arith in
           let two : upperCell g (i + 1) ≡ upperCell g i + limitWidth = omega arith in
-          rw (one, two, none, new .moved (limitRow g i) (omega arith) (omega arith), new .moved (lowerCell g i) (omega arith) (omega arith), new .moved (upperCell g i) (omega arith) (omega arith))
+          rw (one, two, none, new .moved (limitRow g i) (omega arith) (omega arith), new .moved (lowerCell g i) (omega arith) (omega arith),
+          new .moved (upperCell g i) (omega arith) (omega arith))
 
 -- ---- actions
 module _ (t : List ℕ) (a clock : ℕ) (words : Words t) (low : a < actionRoom) (room : resetCount t a < resetRoom) where
@@ -161,7 +179,8 @@ module _ (t : List ℕ) (a clock : ℕ) (words : Words t) (low : a < actionRoom)
       (reset-here t a clock words low room)
       (reset-above t a clock words low room)
 
-module _ (t : List ℕ) (a v : ℕ) (ws : List ℕ) (words : Words t) (low : a < actionRoom) (room : effectCount t a < effectRoom) (short : length ws ≤ itemRoom) where
+module _ (t : List ℕ) (a v : ℕ) (ws : List ℕ) (words : Words t) (low : a < actionRoom) (room : effectCount t a < effectRoom)
+    (short : length ws ≤ itemRoom) where
   pub effects-list : ((e : ℕ) → e < effectCount t a → effectLength t a e ≤ itemRoom)
       → effectsOf (withEffect t a v ws) a ≡ effectsOf t a ++ (record { var = v; items = ws } ∷ [])
   effects-list few =
@@ -176,7 +195,8 @@ module _ (t : List ℕ) (a v : ℕ) (ws : List ℕ) (words : Words t) (low : a <
           rw (
             effect-row t a v ws words low room short (varCell a e) (omega arith),
             effect-row t a v ws words low room short (lengthCell a e) (omega arith),
-            items-moved t (withEffect t a v ws) at at itemRoom (effectLength t a e) (few e l) (omega arith) (omega (arith, effect-words t a v ws words low room short))
+            items-moved t (withEffect t a v ws) at at itemRoom (effectLength t a e) (few e l) (omega arith)
+            (omega (arith, effect-words t a v ws words low room short))
                 (effect-other t a v ws words low room short a e (omega arith)),
           )
 
@@ -204,7 +224,8 @@ send-list t m count words low few short =
     each i l =
         let place = effectSlot a i in
         rw (action-other w a sendKind count (lengthCell a i) (omega arith))
-        (items-moved w u place place itemRoom (effectLength w a i) (rw (so .long i l) (short i l)) (omega (arith, so .words)) (omega (arith, action-words w a sendKind count (so .words) low))
+        (items-moved w u place place itemRoom (effectLength w a i) (rw (so .long i l) (short i l)) (omega (arith, so .words))
+        (omega (arith, action-words w a sendKind count (so .words) low))
         (λ j h. action-other w a sendKind count (place + j) (omega arith)))
         ∙ so .items i l
 
@@ -229,7 +250,8 @@ receive-list t v words low few =
 -- ---- transitions
 -- transition k of t is transition m of u
 pub transition-same : (t u : List ℕ) (k m : ℕ) → Formed t → Words u → k < transitionCount t → m < transitionRoom
-    → Moved t u (transitionRow k) (transitionRow m) transitionWidth → GroupMoved t u k m → Moved t u (guardSlot k) (guardSlot m) itemRoom → transitionOf u m ≡ transitionOf t k
+    → Moved t u (transitionRow k) (transitionRow m) transitionWidth → GroupMoved t u k m → Moved t u (guardSlot k) (guardSlot m) itemRoom
+    → transitionOf u m ≡ transitionOf t k
 transition-same t u k m f words known room row group items =
     let old : TransitionSound t k = sound t true (together t f) .transition k known in
     let key : keyOf u m ≡ keyOf t k = simp add-zero at (row 0 (omega arith)) in
@@ -243,7 +265,8 @@ transition-same t u k m f words known room row group items =
       group-list t u k m (limitCount t k) group (old .limits .few),
     )
 
-module _ (t : List ℕ) (key : ℕ) (ws : List ℕ) (l : Limits) (f : Formed t) (room : transitionCount t < transitionRoom) (short : length ws ≤ itemRoom) (few : l .count ≤ limitRoom) where
+module _ (t : List ℕ) (key : ℕ) (ws : List ℕ) (l : Limits) (f : Formed t) (room : transitionCount t < transitionRoom)
+    (short : length ws ≤ itemRoom) (few : l .count ≤ limitRoom) where
   abbrev newTransition : StoredTransition
   newTransition = record { pre = preOf key; action = actionOf key; post = postOf key; guard = ws; limits = sortedLimits l (l .count) }
 
@@ -275,19 +298,26 @@ module _ (t : List ℕ) (key : ℕ) (ws : List ℕ) (l : Limits) (f : Formed t) 
       words : Words u
       words = put-words t p n key ws l f refl least room few short
 
-      same : (j : ℕ) → (j ≡ transitionsCell → ⊥) × (guardSlot p ≤ j → effectsStart ≤ j) × (groupStart p ≤ j → groupStart transitionRoom ≤ j) × (transitionRow p ≤ j → limitsStart ≤ j) → getD u j 0 ≡ getD t j 0
+      same : (j : ℕ)
+          → (j ≡ transitionsCell → ⊥) × (guardSlot p ≤ j → effectsStart ≤ j) × (groupStart p ≤ j → groupStart transitionRoom ≤ j)
+          × (transitionRow p ≤ j → limitsStart ≤ j) → getD u j 0 ≡ getD t j 0
       same = put-same t p n key ws l f refl least room few short
 
       before : (k : ℕ) → k < p → transitionOf u k ≡ transitionOf t k
-      before k h = transition-same t u k k f words (omega (arith, least)) (omega (arith, least)) (λ j m. same _ (omega (arith, least))) (λ j m. same _ (omega (arith, least))) (λ j m. same _ (omega (arith, least)))
+      before k h =
+          transition-same t u k k f words (omega (arith, least)) (omega (arith, least)) (λ j m. same _ (omega (arith, least)))
+          (λ j m. same _ (omega (arith, least))) (λ j m. same _ (omega (arith, least)))
 
       rowed : List ℕ
       rowed = withRow t p n key (length ws) (l .count)
 
       limits : limitsOf u p (l .count) ≡ sortedLimits l (l .count)
       limits =
-          group-list (withGroup rowed p n l) u p p (l .count) (λ j h. put-others t p n key ws l f refl least room few short _ (omega (arith, least))) few
-          ∙ limits-list (gapOf rowed (groupStart p) (groupStart n) groupWidth) p l (opened-words rowed p n l (rowed-words t p n key ws l f refl least room few short) least room few) (omega (arith, least)) (l .count) few
+          group-list (withGroup rowed p n l) u p p (l .count)
+          (λ j h. put-others t p n key ws l f refl least room few short _ (omega (arith, least))) few
+          ∙ limits-list (gapOf rowed (groupStart p) (groupStart n) groupWidth) p l
+          (opened-words rowed p n l (rowed-words t p n key ws l f refl least room few short) least room few) (omega (arith, least))
+          (l .count) few
 
       here : transitionOf u p ≡ newTransition
       here =
@@ -309,10 +339,13 @@ module _ (t : List ℕ) (key : ℕ) (ws : List ℕ) (l : Limits) (f : Formed t) 
 pub location-list : (t : List ℕ) (l : Limits) → Words t → locationCount t < locationRoom → l .count ≤ limitRoom
     → limitsOf (withLocation t l) (invariantGroup (locationCount t)) (l .count) ≡ sortedLimits l (l .count)
 location-list t l words room few =
-    group-list (withLimits t (invariantGroup (locationCount t)) l (l .count)) (withLocation t l) (invariantGroup (locationCount t)) (invariantGroup (locationCount t)) (l .count) (location-group t l words room few) few
+    group-list (withLimits t (invariantGroup (locationCount t)) l (l .count)) (withLocation t l) (invariantGroup (locationCount t))
+    (invariantGroup (locationCount t)) (l .count) (location-group t l words room few) few
     ∙ limits-list t (invariantGroup (locationCount t)) l words (omega arith) (l .count) few
 
 -- they are all its invariants
-pub invariants-list : (t : List ℕ) (l : Limits) → Words t → locationCount t < locationRoom → l .count ≤ limitRoom → invariantsOf (withLocation t l) (locationCount t) ≡ sortedLimits l (l .count)
+pub invariants-list : (t : List ℕ) (l : Limits) → Words t → locationCount t < locationRoom → l .count ≤ limitRoom
+    → invariantsOf (withLocation t l) (locationCount t) ≡ sortedLimits l (l .count)
 invariants-list t l words room few =
-    ap (limitsOf (withLocation t l) (invariantGroup (locationCount t))) (location-number t l words room few) ∙ location-list t l words room few
+    ap (limitsOf (withLocation t l) (invariantGroup (locationCount t))) (location-number t l words room few)
+    ∙ location-list t l words room few

@@ -10,13 +10,18 @@ use borrow.Author.Tests.{eqb-true, eqb-false, ne-eqb}
 use lib.Dec.{eqb}
 use lib.ListN.{getD, set, length-set}
 use lib.Seq.{getD-set-same, getD-set-other}
-use Rattle.graph_tables.specs.Layout.{variablesCell, locationsCell, actionsCell, processesCell, transitionsCell, kindsStart, resetsFrom, varsFrom, lengthsFrom, kindCell, valueCell, actionRow, effectSlot}
+use Rattle.graph_tables.specs.Layout.{variablesCell, locationsCell, actionsCell, processesCell, transitionsCell, kindsStart, resetsFrom}
+use Rattle.graph_tables.specs.Layout.{varsFrom, lengthsFrom, kindCell, valueCell, actionRow, effectSlot}
 use Rattle.graph_tables.specs.Sizes.{actionRoom, effectRoom, resetRoom, itemRoom, plainKind, sendKind, receiveKind}
-use Rattle.graph_tables.specs.Words.{Words, variableCount, locationCount, actionCount, processCount, transitionCount, placeAt, invariantCount, actionKind, resetCount, effectCount, resetAt, effectVar, effectLength, effectItems, invariantGroup}
+use Rattle.graph_tables.specs.Words.{Words, variableCount, locationCount, actionCount, processCount, transitionCount, placeAt}
+use Rattle.graph_tables.specs.Words.{invariantCount, actionKind, resetCount, effectCount, resetAt, effectVar, effectLength, effectItems}
+use Rattle.graph_tables.specs.Words.{invariantGroup}
 use Rattle.graph_tables.specs.Sound.{Sound}
 use Rattle.graph_tables.proofs.SoundLaws.{sound}
 use Rattle.graph_tables.proofs.KeptLaws.{Formed, together, ItemsKept, items-moved}
-use Rattle.graph_edits.specs.Lists.{changedAt, variableAt, variablesOf, placesOf, invariantsOf, locationsOf, resetsOf, effectAt, effectsOf, expressionsOf, targetsOf, StoredAction, plain, send, receive, actionAt, actionsOf, transitionOf, transitionsOf}
+use Rattle.graph_edits.specs.Lists.{changedAt, variableAt, variablesOf, placesOf, invariantsOf, locationsOf, resetsOf, effectAt}
+use Rattle.graph_edits.specs.Lists.{effectsOf, expressionsOf, targetsOf, StoredAction, plain, send, receive, actionAt, actionsOf}
+use Rattle.graph_edits.specs.Lists.{transitionOf, transitionsOf}
 use Rattle.graph_edits.proofs.LimitLaws.{sides}
 use Rattle.graph_edits.proofs.GrownFormed.{LocationStands, ActionStands, TransitionStands, Around, front, stands, transition-stands}
 use Rattle.graph_edits.proofs.SpareFormed.{Spare, Agrees}
@@ -94,7 +99,8 @@ module _ (t u : List ℕ) (f : Formed t) (words : Words u) where
   invariants-same l known s =
       rw (s .count) (group-list t u (invariantGroup l) (invariantGroup l) (invariantCount t l) (s .group) (was .invariants l known .few))
 
-  pub resets-same : (a : ℕ) → a < actionCount t → resetCount u a ≡ resetCount t a → ((i : ℕ) → i < resetRoom → resetAt u a i ≡ resetAt t a i)
+  pub resets-same : (a : ℕ) → a < actionCount t → resetCount u a ≡ resetCount t a
+      → ((i : ℕ) → i < resetRoom → resetAt u a i ≡ resetAt t a i)
       → resetsOf u a ≡ resetsOf t a
   resets-same a known count each =
       let few : resetCount t a ≤ resetRoom = was .action a known .resets .few in
@@ -207,7 +213,8 @@ around-kept t u a low f around count = record {
   places = stands t u a low f around .places;
   actions = λ b l other. action-stays t u f (around .words) b l (stay b l (λ e. eqb-false a b other (sym e)));
   transitions = λ still.
-      transitions-same t u f (around .words) (front t u a low f around transitionsCell (omega arith)) (transition-stands t u a low f around);
+      transitions-same t u f (around .words) (front t u a low f around transitionsCell (omega arith))
+      (transition-stands t u a low f around);
 }
   where
     stay : (b : ℕ) → b < actionCount t → b ≢ a → ActionStands t u b

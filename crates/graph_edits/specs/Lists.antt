@@ -11,7 +11,9 @@ use Rattle.grammar.specs.declared.values.Val.{Val}
 use Rattle.graph_tables.specs.Sizes.{plainKind, sendKind}
 use Rattle.graph_tables.specs.declared.handed.Limits.{Limits}
 use Rattle.graph_tables.specs.Handed.{handedClock, handedRange}
-use Rattle.graph_tables.specs.Words.{variableCount, locationCount, actionCount, processCount, transitionCount, kindAt, valueAt, placeAt, invariantCount, actionKind, resetCount, effectCount, resetAt, effectVar, keyOf, limitCount, preOf, actionOf, postOf, keyWith, clockOf, limitRange, guardItems, effectItems, invariantGroup}
+use Rattle.graph_tables.specs.Words.{variableCount, locationCount, actionCount, processCount, transitionCount, kindAt, valueAt, placeAt}
+use Rattle.graph_tables.specs.Words.{invariantCount, actionKind, resetCount, effectCount, resetAt, effectVar, keyOf, limitCount, preOf}
+use Rattle.graph_tables.specs.Words.{actionOf, postOf, keyWith, clockOf, limitRange, guardItems, effectItems, invariantGroup}
 
 -- f of every number below n, in order
 unfoldable pub listOf : {A : Type 0} → (ℕ → A) → ℕ → List A

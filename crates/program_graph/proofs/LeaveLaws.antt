@@ -7,7 +7,6 @@ use native.Mathlib.Omega.{arith}
 use lib.ListN.{length, getD, take, drop}
 use lib.Seq.{getD-take}
 use borrow.Author.Tests.{eqb-true, ltb-true}
-use lib.Dec.{eqb}
 use Rattle.laws.specs.Ladder.{unless}
 use Rattle.laws.specs.Below.{_and_, allBelow}
 use Rattle.laws.proofs.Ladder.{passed, stopped}
@@ -17,7 +16,8 @@ use Rattle.grammar.specs.declared.values.Slot.{Slot}
 use Rattle.graph_tables.specs.Words.{variableCount, clockCount, processCount, locationCount, effectCount}
 use Rattle.graph_tables.specs.Sizes.{processRoom, variableRoom, clockRoom}
 use Rattle.graph_tables.specs.Sound.{Sound}
-use Rattle.graph_tables.specs.RunWords.{RunWords, runPlacesStart, runValuesStart, runProcesses, runVariables, runClocks, placesIn, varsIn, clocksIn}
+use Rattle.graph_tables.specs.RunWords.{RunWords, runPlacesStart, runValuesStart, runProcesses, runVariables, runClocks, placesIn, varsIn}
+use Rattle.graph_tables.specs.RunWords.{clocksIn}
 use Rattle.run_steps.specs.Steps.{readyOf, Effected, unchanged, effectedOf, placedBelow, placeHolds}
 use Rattle.run_steps.specs.Waiting.{waitingOf}
 use Rattle.run_steps.specs.Listing.{sharedEntries, listingOf}
@@ -75,7 +75,8 @@ pub leaves-parts :
     (t r after places vars times : List ℕ) (values : List Slot) → RunOf t r → Parts after (take runPlacesStart r) places vars times →
     VarsLeft (variableCount t) (varsIn r) vars values
     → Leaves t r
-    (record { places = places; vars = values; times = times; processes = runProcesses r; variables = runVariables r; clocks = runClocks r }) after
+    (record { places = places; vars = values; times = times; processes = runProcesses r; variables = runVariables r;
+    clocks = runClocks r }) after
 leaves-parts t r after places vars times values h p v =
     let count : (i : ℕ) → i < runPlacesStart → getD (take runPlacesStart r) i 0 ≡ getD r i 0 = λ i l. getD-take runPlacesStart r i 0 l in
     record {
@@ -187,14 +188,16 @@ module _ (t : List ℕ) (a word : ℕ) (r ws : List ℕ) (h : RunWords r) where
   effects-one false e few v =
       let p = vars-anew r h ws (v .words ∙ vars-length r h) in
       let ok : given .fits ≡ false = sym e in
-      let none : given .vars ≡ slotsOf (varsIn r) = effects-single t a (unchanged (slotsOf (varsIn r)) word) (effectCount t a) few refl ok in
+      let none : given .vars ≡ slotsOf (varsIn r) =
+      effects-single t a (unchanged (slotsOf (varsIn r)) word) (effectCount t a) few refl ok in
       record {
         answer = e;
         parts = record { words = p .words; counts = p .counts; places = p .places; vars = refl; times = p .times };
         vars = rw (p .vars, ok) (rw none at v);
       }
 
-  pub effects-undone : (fits : Bool) → fits ≡ given .fits → fits ≡ false → length ws ≡ 2 * variableRoom → (saved : List ℕ) → saved ≡ varsIn r
+  pub effects-undone : (fits : Bool) → fits ≡ given .fits → fits ≡ false → length ws ≡ 2 * variableRoom → (saved : List ℕ)
+      → saved ≡ varsIn r
       → Effects t a word r false (anew (anew r runValuesStart (2 * variableRoom) ws) runValuesStart (2 * variableRoom) saved)
   effects-undone fits e f size saved same =
       let p = vars-anew r h ws size in
@@ -204,7 +207,8 @@ module _ (t : List ℕ) (a word : ℕ) (r ws : List ℕ) (h : RunWords r) where
       record {
         answer = sym ok;
         parts =
-            record { words = q .words; counts = q .counts ∙ p .counts; places = q .places ∙ p .places; vars = refl; times = q .times ∙ p .times };
+            record { words = q .words; counts = q .counts ∙ p .counts; places = q .places ∙ p .places; vars = refl; times = q .times
+            ∙ p .times };
         vars = rw (back, ok) (vars-same (variableCount t) (varsIn r));
       }
 
@@ -242,7 +246,8 @@ pub leaves-later : (t r after times : List ℕ) → RunOf t r → Parts after (t
       clocks = runClocks r;
     })
     after
-leaves-later t r after times h p = leaves-parts t r after (placesIn r) (varsIn r) times (slotsOf (varsIn r)) h p (vars-same (variableCount t) (varsIn r))
+leaves-later t r after times h p =
+    leaves-parts t r after (placesIn r) (varsIn r) times (slotsOf (varsIn r)) h p (vars-same (variableCount t) (varsIn r))
 
 -- ---- a receive: its variables, then its places
 pub taken-moved :

@@ -8,6 +8,8 @@ pub mod ValueLaws
 pub mod AnswerLaws
 pub mod SaidLaws
 pub mod RunLaws
+pub mod FitLaws
+pub mod FreshLaws
 pub mod RunReady
 pub mod RunExactly
 pub mod WaitingExactly

@@ -5,7 +5,7 @@ use mathlib.Core.Bool.{Bool, true, false, cond}
 use mathlib.Core.List.{List}
 use native.Mathlib.Omega.{arith}
 use lib.ListN.{length, getD}
-use lib.Dec.{eqb, ltb}
+use lib.Dec.{eqb}
 use borrow.Author.Tests.{eqb-true, ltb-true}
 use Rattle.laws.specs.Ladder.{unless}
 use Rattle.laws.specs.Below.{_and_}
@@ -19,12 +19,13 @@ use Rattle.graph_tables.specs.Refusals.{refusal}
 use Rattle.graph_tables.specs.declared.answers.Done.{Done}
 use Rattle.graph_tables.specs.declared.answers.Done.the-variants as Done
 use Rattle.graph_tables.specs.declared.handed.Message.{Message}
-use Rattle.run_steps.specs.Steps.{isKind, clocksAfter, effectedOf, unchanged}
-use Rattle.run_steps.specs.Messages.{spokenOf, takenOf, messageOf}
+use Rattle.run_steps.specs.Steps.{effectedOf, unchanged}
+use Rattle.run_steps.specs.Messages.{takenOf, messageOf}
 use Rattle.run_steps.specs.declared.inner.messages.Speech.{Speech}
 use Rattle.run_steps.proofs.StepLaws.{effects-length}
 use Rattle.run_steps.proofs.MessageLaws.{taken-length}
-use Rattle.run_steps.proofs.AgreeLaws.{Agree, ready-agree, spoken-agree, effected-fits, effected-agree, effected-past, taken-agree, taken-past}
+use Rattle.run_steps.proofs.AgreeLaws.{Agree, ready-agree, spoken-agree, effected-fits, effected-agree, effected-past, taken-agree}
+use Rattle.run_steps.proofs.AgreeLaws.{taken-past}
 use Rattle.program_graph.specs.Running.{runFormed, autonomousOf, plainOf, actedOf, stepOf, waitedOf}
 use Rattle.program_graph.specs.Messaging.{saidOf, sentOf, heardOf, receivedOf}
 use Rattle.program_graph.specs.Inner.{overBelow, withVars, over}
@@ -66,9 +67,11 @@ module _ (t : List ℕ) (run : ProgramGraphRun) (vs : List Slot) (sound : Sound 
 
   -- values that agree with others where the table has variables, and are the run's past them
   back : (vars values : List Slot) → length values ≡ length (run .vars) → Agree (variableCount t) vars values
-      → ((v : ℕ) → variableCount t ≤ v → getD values v blank ≡ getD (run .vars) v blank) → overBelow (run .vars) vars (run .variables) ≡ values
+      → ((v : ℕ) → variableCount t ≤ v → getD values v blank ≡ getD (run .vars) v blank)
+      → overBelow (run .vars) vars (run .variables) ≡ values
   back vars values long agree past =
-      over-is (run .vars) vars (run .variables) values few long (λ v l. agree v (omega (arith, count))) (λ v l. past v (omega (arith, count)))
+      over-is (run .vars) vars (run .variables) values few long (λ v l. agree v (omega (arith, count)))
+      (λ v l. past v (omega (arith, count)))
 
   still : overBelow (run .vars) vs (run .variables) ≡ run .vars
   still = back vs (run .vars) refl same (λ v l. refl)
@@ -111,7 +114,8 @@ module _ (t : List ℕ) (run : ProgramGraphRun) (vs : List Slot) (sound : Sound 
         answer = refl;
         back =
             ap (made _ _)
-            (back (effectedOf t a vs word .vars) (effectedOf t a (run .vars) word .vars) (effects-length t a (unchanged (run .vars) word) (effectCount t a))
+            (back (effectedOf t a vs word .vars) (effectedOf t a (run .vars) word .vars)
+            (effects-length t a (unchanged (run .vars) word) (effectCount t a))
             (effected-agree t sound vs (run .vars) same (size ∙ sym sized) a word known plain)
             (λ v l. effected-past t sound (run .vars) a word v known plain l));
       }))
@@ -161,7 +165,8 @@ module _ (t : List ℕ) (run : ProgramGraphRun) (vs : List Slot) (sound : Sound 
   send-same a posts word =
       both-rungs Sends refl _ _ _ _ (record { message = refl; rest = refused-same 14 }) (λ e.
       both-rungs Sends refl _ _ _ _ (record { message = refl; rest = refused-same 7 }) (λ f.
-      both-rungs Sends (ready-agree t sound vs (run .vars) same _ _ _ _ _ _) _ _ _ _ (record { message = refl; rest = refused-same 8 }) (λ g.
+      both-rungs Sends (ready-agree t sound vs (run .vars) same _ _ _ _ _ _) _ _ _ _ (record { message = refl; rest = refused-same 8 })
+      (λ g.
       both-rungs Sends refl _ _ _ _ (record { message = refl; rest = refused-same 14 }) (λ h.
       said-same a posts word (ltb-true a (actionCount t) (and-first _ _ h)) (eqb-true (actionKind t a) sendKind (and-rest _ _ h))))))
 

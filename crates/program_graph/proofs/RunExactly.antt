@@ -32,7 +32,8 @@ use Rattle.program_graph.specs.declared.answers.Sent.{Sent}
 use Rattle.program_graph.specs.declared.answers.Received.{Received}
 use Rattle.program_graph.proofs.RunLaws.{left-over}
 use Rattle.program_graph.proofs.AnswerLaws.{accepted-ok, not-ok}
-use Rattle.program_graph.proofs.RunReady.{through, step-asked, all-pass, reached-autonomous, reached-plain, reached-send, reached-receive}
+use Rattle.program_graph.proofs.RunReady.{through, step-asked, all-pass, reached-autonomous, reached-plain, reached-send}
+use Rattle.program_graph.proofs.RunReady.{reached-receive}
 
 -- ---- equivalences
 both : {A B C D : Type 0} → A ↔ B → C ↔ D → (A × C) ↔ (B × D)

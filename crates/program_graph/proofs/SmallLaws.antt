@@ -1,23 +1,22 @@
 -- Places and times stay numbers of 32 bits, whatever a call answers.
 use Prim.Native.Nat.{ℕ, zero, suc, _+_, _<_, _≤_}
-use mathlib.Core.Path.{_≡_, refl, sym, ap, _∙_}
+use mathlib.Core.Path.{_≡_}
 use mathlib.Core.Bool.{Bool, true, false, cond}
 use mathlib.Core.List.{List}
 use native.Mathlib.Omega.{arith}
 use lib.Dec.{eqb}
 use lib.ListN.{length, getD, set}
 use borrow.Author.Tests.{eqb-true, ltb-true}
-use Rattle.laws.specs.Ladder.{unless}
 use Rattle.laws.specs.Below.{_and_, allBelow}
 use Rattle.laws.proofs.Ladder.{rung}
 use Rattle.laws.proofs.BelowLaws.{and-first, and-rest, all-at}
 use Rattle.graph_tables.specs.Layout.{postSpan}
-use Rattle.graph_tables.specs.Sizes.{word32, lastTime}
+use Rattle.graph_tables.specs.Sizes.{word32}
 use Rattle.graph_tables.specs.Words.{locationCount, transitionCount, keyOf, postOf, resetAt, resetCount, epsilon}
 use Rattle.graph_tables.specs.Sound.{Sound}
 use Rattle.graph_tables.specs.declared.handed.Message.{Message}
 use Rattle.grammar.specs.declared.values.Slot.{Slot}
-use Rattle.run_steps.specs.Steps.{leadsOf, processReady, readyOf, resetBelow, clocksAfter, placedBelow, postKnown, clockFits, shiftedBelow}
+use Rattle.run_steps.specs.Steps.{leadsOf, processReady, readyOf, resetBelow, placedBelow, postKnown, clockFits, shiftedBelow}
 use Rattle.run_steps.proofs.AnyLaws.{any-some}
 use Rattle.run_steps.proofs.StepLaws.{set-keeps, fits-at}
 use Rattle.program_graph.specs.Running.{autonomousOf, plainOf, actedOf, stepOf, waitedOf}
@@ -33,7 +32,8 @@ use Rattle.program_graph.specs.declared.answers.Received.{Received}
 small-set : (xs : List ℕ) (i x : ℕ) → Small xs → x < word32 → Small (set xs i x)
 small-set xs i x h l j = set-keeps (λ (y : ℕ). y < word32) 0 xs i x j (λ e. l) (h j)
 
-small-placed : (places posts : List ℕ) → Small places → (n : ℕ) → ((p : ℕ) → p < n → getD posts p 0 < word32) → Small (placedBelow places posts n)
+small-placed : (places posts : List ℕ) → Small places → (n : ℕ) → ((p : ℕ) → p < n → getD posts p 0 < word32)
+    → Small (placedBelow places posts n)
 unfolding placedBelow
 small-placed places posts h zero l = h
 small-placed places posts h (suc n) l =
@@ -60,7 +60,8 @@ known-small t posts sound n h p l =
     omega (arith, k, sound .counts .locations)
 
 ready-small :
-    (t : List ℕ) (vars : List Slot) (clocks after places : List ℕ) (n a : ℕ) (posts : List ℕ) → readyOf t vars clocks after places n a posts ≡ true →
+    (t : List ℕ) (vars : List Slot) (clocks after places : List ℕ) (n a : ℕ) (posts : List ℕ) → readyOf t vars clocks after places n a posts
+    ≡ true →
     (p : ℕ) → p < n → getD posts p 0 < word32
 unfolding readyOf processReady leadsOf
 ready-small t vars clocks after places n a posts h p l =
@@ -90,7 +91,8 @@ module _ (t : List ℕ) (run : ProgramGraphRun) (sound : Sound t) (h : SmallRun 
   autonomous-small posts l =
       rung Step _ _ _ h (λ e. record { places = small-placed (run .places) posts (h .places) (run .processes) l; times = h .times })
 
-  acted-small : (a : ℕ) (posts : List ℕ) (word : ℕ) → ((p : ℕ) → p < run .processes → getD posts p 0 < word32) → Step (actedOf t run a posts word)
+  acted-small : (a : ℕ) (posts : List ℕ) (word : ℕ) → ((p : ℕ) → p < run .processes → getD posts p 0 < word32)
+      → Step (actedOf t run a posts word)
   unfolding actedOf plainOf
   acted-small a posts word l =
       rung Step _ _ _ h (λ e.
@@ -110,11 +112,13 @@ module _ (t : List ℕ) (run : ProgramGraphRun) (sound : Sound t) (h : SmallRun 
       let l = posts-small e f in
       by (eqb a epsilon) l))
     where
-      posts-small : eqb (length posts) (run .processes) ≡ true → allBelow (length posts) (postKnown t posts) ≡ true → (p : ℕ) → p < run .processes
+      posts-small : eqb (length posts) (run .processes) ≡ true → allBelow (length posts) (postKnown t posts) ≡ true → (p : ℕ)
+          → p < run .processes
           → getD posts p 0 < word32
       posts-small e f p l = known-small t posts sound (length posts) f p (omega (arith, eqb-true (length posts) (run .processes) e))
 
-      by : (b : Bool) → ((p : ℕ) → p < run .processes → getD posts p 0 < word32) → Step (cond b (autonomousOf t run posts) (actedOf t run a posts word))
+      by : (b : Bool) → ((p : ℕ) → p < run .processes → getD posts p 0 < word32)
+          → Step (cond b (autonomousOf t run posts) (actedOf t run a posts word))
       by true l = autonomous-small posts l
       by false l = acted-small a posts word l
 
@@ -133,7 +137,8 @@ module _ (t : List ℕ) (run : ProgramGraphRun) (sound : Sound t) (h : SmallRun 
       rung Sends _ _ _ h (λ g.
       rung Sends _ _ _ h (λ k.
       rung Sends _ _ _ h (λ s.
-      record { places = small-placed (run .places) posts (h .places) (run .processes) (ready-small t _ _ _ _ _ _ posts g); times = h .times })))))
+      record { places = small-placed (run .places) posts (h .places) (run .processes)
+      (ready-small t _ _ _ _ _ _ posts g); times = h .times })))))
 
   pub receive-small : (a : ℕ) (posts : List ℕ) (m : Message) → SmallRun (receivedOf t run a posts m .run)
   unfolding receivedOf heardOf
@@ -143,4 +148,5 @@ module _ (t : List ℕ) (run : ProgramGraphRun) (sound : Sound t) (h : SmallRun 
       rung Receives _ _ _ h (λ g.
       rung Receives _ _ _ h (λ k.
       rung Receives _ _ _ h (λ s.
-      record { places = small-placed (run .places) posts (h .places) (run .processes) (ready-small t _ _ _ _ _ _ posts g); times = h .times })))))
+      record { places = small-placed (run .places) posts (h .places) (run .processes)
+      (ready-small t _ _ _ _ _ _ posts g); times = h .times })))))

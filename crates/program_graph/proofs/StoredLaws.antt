@@ -1,20 +1,19 @@
 -- Laws of a run's variables put into words, and read back over the run's.
 use Prim.Native.Nat.{ℕ, zero, suc, _+_, _*_, _<_, _≤_}
-use mathlib.Core.Path.{_≡_, refl, sym, ap, _∙_}
+use mathlib.Core.Path.{_≡_, refl, sym, _∙_}
 use mathlib.Core.List.{List}
 use mathlib.Core.Logic.{⊎-elim}
 use native.Mathlib.Decide.{decLt}
 use native.Mathlib.Nat.{eq-or-lt-of-le, le-of-suc-le-suc, not-suc-le-zero}
 use native.Mathlib.Omega.{arith}
 use lib.ListN.{length, getD, set, length-set, List·getD-eq-default}
-use lib.Seq.{getD-set-same, getD-set-other, set-getD, ext-getD}
+use lib.Seq.{getD-set-same, getD-set-other, ext-getD}
 use Rattle.laws.proofs.Copies.{one-more}
 use Rattle.grammar.specs.Evaluation.{blank}
 use Rattle.grammar.specs.Slots.{kindIn, payloadIn, slotsOf, FitVal}
 use Rattle.grammar.specs.declared.values.Val.{Val}
 use Rattle.grammar.specs.declared.values.Slot.{Slot}
 use Rattle.graph_tables.specs.Sizes.{variableRoom, word32}
-use Rattle.run_steps.specs.Inner.{VarWords}
 use Rattle.run_steps.proofs.VarLaws.{value-here, value-there, put-extends}
 use Rattle.program_graph.specs.Inner.{Small, overBelow, VarsStored}
 
@@ -37,7 +36,8 @@ stored-none ws vars h =
 
 pub stored-more :
     (ws : List ℕ) (vars : List Slot) (v : ℕ) (x : Val) → v < variableRoom → FitVal x → record { value = x } ≡ getD vars v blank →
-    VarsStored ws vars v → {after : List ℕ} → after ≡ set (set ws (2 * v) (kindIn x)) (2 * v + 1) (payloadIn x) → VarsStored after vars (v + 1)
+    VarsStored ws vars v → {after : List ℕ} → after ≡ set (set ws (2 * v) (kindIn x)) (2 * v + 1) (payloadIn x) → VarsStored after vars
+    (v + 1)
 stored-more ws vars v x room f e s q =
     let size = s .used .words in
     let last : v < v + 1 = omega arith in

@@ -1,15 +1,14 @@
 -- A call on a run by value is the call on its words: what was put there, and what comes back over the run.
-use Prim.Native.Nat.{ℕ, _*_, _<_, _≤_}
-use mathlib.Core.Path.{_≡_, refl, sym, ap, _∙_, subst}
+use Prim.Native.Nat.{ℕ, _<_}
+use mathlib.Core.Path.{_≡_, ap, _∙_}
 use mathlib.Core.Bool.{true}
 use mathlib.Core.List.{List}
 use native.Mathlib.Omega.{arith}
-use lib.ListN.{length, getD}
+use lib.ListN.{length}
 use lib.Dec.{eqb}
-use Rattle.laws.specs.Below.{_and_, allBelow}
+use Rattle.laws.specs.Below.{_and_}
 use Rattle.laws.proofs.BelowLaws.{and-first, and-rest, and-both, all-kept}
 use Rattle.grammar.specs.Values.{kindOf, kindWord}
-use Rattle.grammar.specs.Evaluation.{blank}
 use Rattle.grammar.specs.Slots.{slotsOf}
 use Rattle.grammar.specs.declared.values.Slot.{Slot}
 use Rattle.grammar.proofs.SlotLaws.{slots-length}
@@ -32,18 +31,21 @@ use Rattle.program_graph.specs.declared.answers.Sent.{Sent}
 use Rattle.program_graph.specs.declared.answers.Received.{Received}
 use Rattle.program_graph.proofs.WordLaws.{vars-length}
 use Rattle.program_graph.proofs.LeaveLaws.{variables-same}
-use Rattle.program_graph.proofs.OverLaws.{Same, step-same, wait-same, send-same, receive-same}
+use Rattle.program_graph.proofs.OverLaws.{step-same, wait-same, send-same, receive-same}
 use Rattle.program_graph.proofs.SmallLaws.{SmallRun, step-small, wait-small, send-small, receive-small}
 
 -- ---- answers from their parts
 stepped-is : (s : Stepped) (d : Done) (x : ProgramGraphRun) → d ≡ s .answer → x ≡ s .run → record { answer = d; run = x } ≡ s
-stepped-is s d x e f = ap (λ (y : Done). record { answer = y; run = x }) e ∙ ap (λ (y : ProgramGraphRun). record { answer = s .answer; run = y }) f
+stepped-is s d x e f =
+    ap (λ (y : Done). record { answer = y; run = x }) e ∙ ap (λ (y : ProgramGraphRun). record { answer = s .answer; run = y }) f
 
 waited-is : (s : Waited) (d : Done) (x : ProgramGraphRun) → d ≡ s .answer → x ≡ s .run → record { answer = d; run = x } ≡ s
-waited-is s d x e f = ap (λ (y : Done). record { answer = y; run = x }) e ∙ ap (λ (y : ProgramGraphRun). record { answer = s .answer; run = y }) f
+waited-is s d x e f =
+    ap (λ (y : Done). record { answer = y; run = x }) e ∙ ap (λ (y : ProgramGraphRun). record { answer = s .answer; run = y }) f
 
 received-is : (s : Received) (d : Done) (x : ProgramGraphRun) → d ≡ s .answer → x ≡ s .run → record { answer = d; run = x } ≡ s
-received-is s d x e f = ap (λ (y : Done). record { answer = y; run = x }) e ∙ ap (λ (y : ProgramGraphRun). record { answer = s .answer; run = y }) f
+received-is s d x e f =
+    ap (λ (y : Done). record { answer = y; run = x }) e ∙ ap (λ (y : ProgramGraphRun). record { answer = s .answer; run = y }) f
 
 sent-is : (s : Sent) (d : Done) (m : Message) (x : ProgramGraphRun) → d ≡ s .answer → m ≡ s .message → x ≡ s .run
     → record { answer = d; message = m; run = x } ≡ s
@@ -99,7 +101,8 @@ module _ (t : List ℕ) (run : ProgramGraphRun) (r : List ℕ) (sound : Sound t)
 
   -- ---- one call
   module _ (a : ℕ) (posts : List ℕ) (after : List ℕ) where
-    pub stepped-small : (word : ℕ) (d : Done) → DidStep t r d after (stepOf t (runAt r) a posts word) → Small (placesIn after) × Small (clocksIn after)
+    pub stepped-small : (word : ℕ) (d : Done) → DidStep t r d after (stepOf t (runAt r) a posts word)
+        → Small (placesIn after) × Small (clocksIn after)
     stepped-small word d did = reads-small after _ (did .1 .reads) (step-small t (runAt r) sound stored-small a posts word)
 
     pub stepped-back : (word : ℕ) (d : Done) → DidStep t r d after (stepOf t (runAt r) a posts word)
@@ -111,7 +114,8 @@ module _ (t : List ℕ) (run : ProgramGraphRun) (r : List ℕ) (sound : Sound t)
         let back = ap (over run) (did .1 .reads ∙ ap (λ (y : Stepped). y .run) x) ∙ e .back in
         stepped-is (stepOf t run a posts word) d _ answer back
 
-    pub sent-small : (word : ℕ) (d : Said) → DidSend t r d after (sentOf t (runAt r) a posts word) → Small (placesIn after) × Small (clocksIn after)
+    pub sent-small : (word : ℕ) (d : Said) → DidSend t r d after (sentOf t (runAt r) a posts word)
+        → Small (placesIn after) × Small (clocksIn after)
     sent-small word d did = reads-small after _ (did .words .reads) (send-small t (runAt r) sound stored-small a posts word)
 
     pub sent-back : (word : ℕ) (d : Said) → DidSend t r d after (sentOf t (runAt r) a posts word)
@@ -124,7 +128,8 @@ module _ (t : List ℕ) (run : ProgramGraphRun) (r : List ℕ) (sound : Sound t)
         let back = ap (over run) (did .words .reads ∙ ap (λ (y : Sent). y .run) x) ∙ e .rest .back in
         sent-is (sentOf t run a posts word) (d .answer) (d .message) _ answer message back
 
-    pub received-small : (m : Message) (d : Done) → DidReceive t r d after (receivedOf t (runAt r) a posts m) → Small (placesIn after) × Small (clocksIn after)
+    pub received-small : (m : Message) (d : Done) → DidReceive t r d after (receivedOf t (runAt r) a posts m)
+        → Small (placesIn after) × Small (clocksIn after)
     received-small m d did = reads-small after _ (did .1 .reads) (receive-small t (runAt r) sound stored-small a posts m)
 
     pub received-back : (m : Message) (d : Done) → DidReceive t r d after (receivedOf t (runAt r) a posts m)
@@ -136,7 +141,8 @@ module _ (t : List ℕ) (run : ProgramGraphRun) (r : List ℕ) (sound : Sound t)
         let back = ap (over run) (did .1 .reads ∙ ap (λ (y : Received). y .run) x) ∙ e .back in
         received-is (receivedOf t run a posts m) d _ answer back
 
-  pub waited-small : (after : List ℕ) (delta : ℕ) (d : Done) → DidWait t r d after (waitedOf t (runAt r) delta) → Small (placesIn after) × Small (clocksIn after)
+  pub waited-small : (after : List ℕ) (delta : ℕ) (d : Done) → DidWait t r d after (waitedOf t (runAt r) delta)
+      → Small (placesIn after) × Small (clocksIn after)
   waited-small after delta d did = reads-small after _ (did .1 .reads) (wait-small t (runAt r) sound stored-small delta)
 
   pub waited-back : (after : List ℕ) (delta : ℕ) (d : Done) → DidWait t r d after (waitedOf t (runAt r) delta)

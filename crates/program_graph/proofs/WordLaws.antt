@@ -75,7 +75,8 @@ placed-front : (places posts : List ℕ) (n : ℕ) → n ≤ length places → (
 unfolding placedBelow
 placed-front places posts n h zero l = take-append-drop n places
 placed-front places posts n h (suc m) l =
-    let long : m < length (placedBelow (take n places) posts m) = rw (placed-length (take n places) posts m, length-take-le n places h) (omega arith) in
+    let long : m < length (placedBelow (take n places) posts m) =
+    rw (placed-length (take n places) posts m, length-take-le n places h) (omega arith) in
     sym (set-append-left (placedBelow (take n places) posts m) (drop n places) m (getD posts m 0) long)
     ∙ ap (λ (xs : List ℕ). set xs m (getD posts m 0)) (placed-front places posts n h m (omega arith))
 
@@ -94,7 +95,9 @@ module _ (r posts : List ℕ) (h : RunWords r) (n : ℕ) (few : n ≤ processRoo
         words = part-length r runPlacesStart n moved size within ∙ h;
         counts = part-before r runPlacesStart n moved size within 0 runPlacesStart (omega arith);
         places =
-            ap (take processRoom) (drop-at (take runPlacesStart r) (moved ++ drop n (drop runPlacesStart r)) runPlacesStart (length-take-le runPlacesStart r (omega arith)))
+            ap (take processRoom)
+            (drop-at (take runPlacesStart r) (moved ++ drop n (drop runPlacesStart r)) runPlacesStart
+            (length-take-le runPlacesStart r (omega arith)))
             ∙ ap (λ (i : ℕ). take i (moved ++ drop n (drop runPlacesStart r))) split
             ∙ take-append-add moved (drop n (drop runPlacesStart r)) (processRoom - n)
             ∙ ap (λ (w : List ℕ). moved ++ w) (drop-take (drop runPlacesStart r) n (processRoom - n) (omega arith))
@@ -111,7 +114,8 @@ count-at r counts e i l = sym (getD-take runPlacesStart r i 0 l) ∙ ap (λ (w :
 
 pub parts-run : {r counts places vars times : List ℕ} → Parts r counts places vars times
     → runAt r
-    ≡ record { places = places; vars = slotsOf vars; times = times; processes = getD counts 0 0; variables = getD counts 1 0; clocks = getD counts 2 0 }
+    ≡ record { places = places; vars = slotsOf vars; times = times; processes = getD counts 0 0; variables = getD counts 1 0;
+    clocks = getD counts 2 0 }
 parts-run {r} {counts} p =
     let c = count-at r counts (p .counts) in
     cc (p .places, p .vars, p .times, c 0 (omega arith), c 1 (omega arith), c 2 (omega arith))
@@ -123,7 +127,8 @@ front : (w : List ℕ) → length w ≡ processRoom + (2 * variableRoom + clockR
 front w h =
     let behind : drop (2 * variableRoom) (drop processRoom w) ≡ take clockRoom (drop (processRoom + 2 * variableRoom) w) =
         drop-drop (2 * variableRoom) processRoom w
-        ∙ sym (take-all clockRoom (drop (processRoom + 2 * variableRoom) w) (rw (length-drop (processRoom + 2 * variableRoom) w, h) (omega arith)))
+        ∙ sym (take-all clockRoom (drop (processRoom + 2 * variableRoom) w)
+        (rw (length-drop (processRoom + 2 * variableRoom) w, h) (omega arith)))
     in
     sym (take-append-drop processRoom w)
     ∙ ap (λ (x : List ℕ). take processRoom w ++ x) (sym (take-append-drop (2 * variableRoom) (drop processRoom w)))
@@ -149,11 +154,14 @@ pub stored-all :
     → r₁ ≡ set (set (set r 0 (run .processes)) 1 (run .variables)) 2 (run .clocks)
     → Parts r₂ (take runPlacesStart r₁) (run .places) (varsIn r₁) (clocksIn r₁) → Small (run .places)
     → Parts r₃ (take runPlacesStart r₂) (placesIn r₂) (varsIn r₂) (run .times) → Small (run .times)
-    → VarsStored ws (run .vars) (run .variables) → length (run .vars) ≡ variableRoom → Stored (anew r₃ runValuesStart (2 * variableRoom) ws) run
+    → VarsStored ws (run .vars) (run .variables) → length (run .vars) ≡ variableRoom
+    → Stored (anew r₃ runValuesStart (2 * variableRoom) ws) run
 stored-all run r r₁ r₂ r₃ ws h e p f q g v size =
     let made = vars-anew r₃ (q .words) ws (v .used .words) in
-    let counts = made .counts ∙ q .counts ∙ p .counts ∙ ap (take runPlacesStart) e ∙ counts-told r h (run .processes) (run .variables) (run .clocks) in
-    let parts : Parts (anew r₃ runValuesStart (2 * variableRoom) ws) (run .processes ∷ run .variables ∷ run .clocks ∷ []) (run .places) ws (run .times) =
+    let counts =
+    made .counts ∙ q .counts ∙ p .counts ∙ ap (take runPlacesStart) e ∙ counts-told r h (run .processes) (run .variables) (run .clocks) in
+    let parts : Parts (anew r₃ runValuesStart (2 * variableRoom) ws) (run .processes ∷ run .variables ∷ run .clocks ∷ []) (run .places) ws
+    (run .times) =
         record {
           words = made .words;
           counts = counts;

@@ -2,6 +2,8 @@ pub mod Running
 pub mod Messaging
 pub mod Transitions
 pub mod Inner
+pub mod Fits
+pub mod FreshWords
 pub mod Facts
 pub mod RunChains
 pub mod Marked

@@ -2,6 +2,7 @@
 pub mod by_value;
 pub mod fits;
 pub mod fresh;
+pub mod fresh_words;
 pub mod listing;
 pub mod messages;
 pub mod steps;

@@ -22,7 +22,8 @@ use graph_tables::inner;
 use graph_tables::refusals::Refusal;
 use run_steps::inner::messages;
 ghost use mathlib.Core.Path.{_≡_};
-ghost use Rattle.program_graph.specs.Running.{fitsTable, transitionOf, waitOf, canWaitOf, isWaitingOf, newRunOf, statesOf, valueIn, timeOf};
+ghost use Rattle.program_graph.specs.Running.{fitsTable, transitionOf, waitOf, canWaitOf, isWaitingOf, newRunOf, statesOf, valueIn};
+ghost use Rattle.program_graph.specs.Running.{timeOf};
 ghost use Rattle.program_graph.specs.Messaging.{sendOf, receiveOf};
 
 // The test behind 32.

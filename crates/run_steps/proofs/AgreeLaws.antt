@@ -21,10 +21,12 @@ use Rattle.grammar.specs.declared.evaluation.Evaluated.{Evaluated}
 use Rattle.grammar.specs.declared.evaluation.Evaluated.the-variants.{Known, NoValue}
 use Rattle.grammar.proofs.AgreeLaws.{evaluation-agree}
 use Rattle.graph_tables.specs.Sizes.{plainKind, sendKind, receiveKind}
-use Rattle.graph_tables.specs.Words.{variableCount, actionCount, transitionCount, actionKind, kindsOf, effectCount, effectVar, effectItems, guardLength, guardItems, epsilon}
+use Rattle.graph_tables.specs.Words.{variableCount, actionCount, transitionCount, actionKind, kindsOf, effectCount, effectVar, effectItems}
+use Rattle.graph_tables.specs.Words.{guardLength, guardItems, epsilon}
 use Rattle.graph_tables.specs.Sound.{Sound}
 use Rattle.graph_tables.specs.declared.answers.Entry.{Entry}
-use Rattle.run_steps.specs.Steps.{satisfied, invariantsHold, guardHolds, passesOf, leadsOf, processReady, readyOf, placeHolds, Effected, assigned, unchanged, effectNext, effectsBelow, effectedOf}
+use Rattle.run_steps.specs.Steps.{satisfied, invariantsHold, guardHolds, passesOf, leadsOf, processReady, readyOf, placeHolds}
+use Rattle.run_steps.specs.Steps.{Effected, assigned, unchanged, effectNext, effectsBelow, effectedOf}
 use Rattle.graph_tables.specs.declared.handed.Message.{Message}
 use Rattle.run_steps.specs.Messages.{spokenNext, spokenBelow, spokenOf, unsaid, takenBelow, takenOf}
 use Rattle.run_steps.proofs.MessageLaws.{taken-length, taken-kept}
@@ -39,13 +41,15 @@ abbrev pub Agree : ℕ → List Slot → List Slot → Type 0
 Agree n vars others = (v : ℕ) → v < n → getD vars v blank ≡ getD others v blank
 
 -- ---- a store into variables that agree
-set-agree : (n : ℕ) (vars others : List Slot) → length vars ≡ length others → Agree n vars others → (v : ℕ) (x : Slot) → Agree n (set vars v x) (set others v x)
+set-agree : (n : ℕ) (vars others : List Slot) → length vars ≡ length others → Agree n vars others → (v : ℕ) (x : Slot)
+    → Agree n (set vars v x) (set others v x)
 set-agree n vars others size same v x u l = by (ℕ-discrete u v)
   where
     here : Dec (v < length vars) → getD (set vars v x) v blank ≡ getD (set others v x) v blank
     here (yes h) = getD-set-same vars v x blank h ∙ sym (getD-set-same others v x blank (omega arith))
     here (no h) =
-        List·getD-eq-default (set vars v x) blank (simp length-set (omega arith)) ∙ sym (List·getD-eq-default (set others v x) blank (simp length-set (omega arith)))
+        List·getD-eq-default (set vars v x) blank (simp length-set (omega arith))
+        ∙ sym (List·getD-eq-default (set others v x) blank (simp length-set (omega arith)))
 
     by : Dec (u ≡ v) → getD (set vars v x) u blank ≡ getD (set others v x) u blank
     by (yes e) = rw e (here (decLt v (length vars)))
@@ -103,11 +107,13 @@ module _ (t : List ℕ) (sound : Sound t) (vars others : List Slot) (same : Agre
   unfolding guardHolds
   guard-agree k l = by (ℕ-discrete (guardLength t k) 0)
     where
-      by : Dec (guardLength t k ≡ 0) → answered t k (evaluationOf vars 0 (guardItems t k)) ≡ answered t k (evaluationOf others 0 (guardItems t k))
+      by : Dec (guardLength t k ≡ 0)
+          → answered t k (evaluationOf vars 0 (guardItems t k)) ≡ answered t k (evaluationOf others 0 (guardItems t k))
       by (yes e) = rw (eq-eqb (guardLength t k) 0 e)
       by (no d) = ap (answered t k) (typed-agree vars others same (guardItems t k) _ 0 (sound .transition k l .guard .typed (omega arith)))
 
-  pub passes-agree : (clocks after : List ℕ) (k : ℕ) → k < transitionCount t → passesOf t vars clocks after k ≡ passesOf t others clocks after k
+  pub passes-agree : (clocks after : List ℕ) (k : ℕ) → k < transitionCount t
+      → passesOf t vars clocks after k ≡ passesOf t others clocks after k
   unfolding passesOf
   passes-agree clocks after k l = rw (guard-agree k l)
 
@@ -120,22 +126,27 @@ module _ (t : List ℕ) (sound : Sound t) (vars others : List Slot) (same : Agre
       → readyOf t vars clocks after places n action posts ≡ readyOf t others clocks after places n action posts
   unfolding readyOf processReady
   ready-agree clocks after places n action posts =
-      all-same _ _ n (λ p l. any-same _ _ (transitionCount t) (λ k m. leads-agree clocks after (getD places p 0) action (getD posts p 0) k m))
+      all-same _ _ n
+      (λ p l. any-same _ _ (transitionCount t) (λ k m. leads-agree clocks after (getD places p 0) action (getD posts p 0) k m))
 
   -- the same is listed
-  entries-agree : (clocks : List ℕ) (pre action p : ℕ) → processEntries t vars clocks pre action p ≡ processEntries t others clocks pre action p
+  entries-agree : (clocks : List ℕ) (pre action p : ℕ)
+      → processEntries t vars clocks pre action p ≡ processEntries t others clocks pre action p
   unfolding opensBy
   entries-agree clocks pre action p = join-same _ _ (transitionCount t) (λ k l. rw (passes-agree clocks (clocksBy t action clocks) k l))
 
-  pub shared-agree : (clocks places : List ℕ) (n action : ℕ) → sharedEntries t vars clocks places n action ≡ sharedEntries t others clocks places n action
+  pub shared-agree : (clocks places : List ℕ) (n action : ℕ)
+      → sharedEntries t vars clocks places n action ≡ sharedEntries t others clocks places n action
   unfolding sharedEntries
   shared-agree clocks places n action =
-      ap (λ (es : List Entry). cond (sharedOf t places n action) es []) (join-same _ _ n (λ p l. entries-agree clocks (getD places p 0) action p))
+      ap (λ (es : List Entry). cond (sharedOf t places n action) es [])
+      (join-same _ _ n (λ p l. entries-agree clocks (getD places p 0) action p))
 
   pub listing-agree : (clocks places : List ℕ) (n : ℕ) → listingOf t vars clocks places n ≡ listingOf t others clocks places n
   listing-agree clocks places n =
       let shared = shared-agree clocks places n in
-      cc (join-same (sharedEntries t vars clocks places n) (sharedEntries t others clocks places n) (actionCount t) (λ a l. shared a), shared epsilon)
+      cc (join-same (sharedEntries t vars clocks places n) (sharedEntries t others clocks places n) (actionCount t) (λ a l. shared a),
+      shared epsilon)
 
   -- a send says the same
   pub spoken-agree : (a word : ℕ) → a < actionCount t → actionKind t a ≡ sendKind → spokenOf t a vars word ≡ spokenOf t a others word
@@ -146,11 +157,13 @@ module _ (t : List ℕ) (sound : Sound t) (vars others : List Slot) (same : Agre
       below zero l = refl
       below (suc n) l =
           let expression = sound .action a known .send send .expression n (omega arith) in
-          rw (below n (omega arith), typed-agree vars others same (effectItems t a n) (expression .kind) (spokenBelow t a others (unsaid word) n .word) (expression .typed))
+          rw (below n (omega arith), typed-agree vars others same (effectItems t a n) (expression .kind)
+          (spokenBelow t a others (unsaid word) n .word) (expression .typed))
 
   -- effects are alike
   module _ (size : length vars ≡ length others) (a word : ℕ) (known : a < actionCount t) (plain : actionKind t a ≡ plainKind) where
-    effects-alike : (n : ℕ) → n ≤ effectCount t a → Alike (variableCount t) (effectsBelow t a (unchanged vars word) n) (effectsBelow t a (unchanged others word) n)
+    effects-alike : (n : ℕ) → n ≤ effectCount t a
+        → Alike (variableCount t) (effectsBelow t a (unchanged vars word) n) (effectsBelow t a (unchanged others word) n)
     unfolding effectsBelow
     effects-alike zero l = record { fits = refl; word = refl; size = size; vars = same }
     effects-alike (suc n) l =
@@ -169,10 +182,12 @@ module _ (t : List ℕ) (sound : Sound t) (vars others : List Slot) (same : Agre
     effected-agree = effects-alike (effectCount t a) (omega arith) .vars
 
 -- what is past the variables of the table is as it was
-pub effected-past : (t : List ℕ) → Sound t → (vars : List Slot) (a word v : ℕ) → a < actionCount t → actionKind t a ≡ plainKind → variableCount t ≤ v
+pub effected-past : (t : List ℕ) → Sound t → (vars : List Slot) (a word v : ℕ) → a < actionCount t → actionKind t a ≡ plainKind
+    → variableCount t ≤ v
     → getD (effectedOf t a vars word .vars) v blank ≡ getD vars v blank
 effected-past t sound vars a word v known plain h =
-    effects-other t a (unchanged vars word) (effectCount t a) v (λ e l q. omega (arith, sound .action a known .plain plain .effect e l .var))
+    effects-other t a (unchanged vars word) (effectCount t a) v
+    (λ e l q. omega (arith, sound .action a known .plain plain .effect e l .var))
 
 -- ---- what a receive takes
 taken-same :
@@ -191,7 +206,8 @@ pub taken-agree :
 taken-agree t vars others same size a m = taken-same t (variableCount t) vars others same size a m (effectCount t a)
 
 pub taken-past :
-    (t : List ℕ) → Sound t → (vars : List Slot) (a v : ℕ) (m : Message) → a < actionCount t → actionKind t a ≡ receiveKind → variableCount t ≤ v
+    (t : List ℕ) → Sound t → (vars : List Slot) (a v : ℕ) (m : Message) → a < actionCount t → actionKind t a ≡ receiveKind
+    → variableCount t ≤ v
     → getD (takenOf t a m vars) v blank ≡ getD vars v blank
 taken-past t sound vars a v m known receive h =
     taken-kept t a m vars (effectCount t a) v (λ e l q. omega (arith, sound .action a known .receive receive .var e l))
@@ -202,7 +218,8 @@ module _ (t xs ys : List ℕ) (n : ℕ) (same : (p : ℕ) → p < n → getD xs 
       → readyOf t vars clocks after xs n action posts ≡ readyOf t vars clocks after ys n action posts
   unfolding readyOf processReady
   ready-places vars clocks after action posts =
-      all-same _ _ n (λ p l. ap (λ (x : ℕ). anyBelow (transitionCount t) (leadsOf t vars clocks after x action (getD posts p 0))) (same p l))
+      all-same _ _ n
+      (λ p l. ap (λ (x : ℕ). anyBelow (transitionCount t) (leadsOf t vars clocks after x action (getD posts p 0))) (same p l))
 
   pub hold-places : (clocks : List ℕ) → allBelow n (placeHolds t xs clocks) ≡ allBelow n (placeHolds t ys clocks)
   unfolding placeHolds

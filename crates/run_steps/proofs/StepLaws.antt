@@ -20,11 +20,13 @@ use Rattle.grammar.specs.declared.evaluation.Evaluated.{Evaluated}
 use Rattle.grammar.specs.declared.evaluation.Evaluated.the-variants.{Known, NoValue}
 use Rattle.graph_tables.specs.Sizes.{lastTime}
 use Rattle.graph_tables.specs.Words.{locationCount, resetAt, effectVar, effectItems}
-use Rattle.run_steps.specs.Steps.{postKnown, clockFits, resetBelow, shiftedBelow, placedBelow, Effected, assigned, effectNext, effectsBelow}
+use Rattle.run_steps.specs.Steps.{postKnown, clockFits, resetBelow, shiftedBelow, placedBelow, Effected, assigned, effectNext}
+use Rattle.run_steps.specs.Steps.{effectsBelow}
 
 -- ---- a store
 -- what holds of an element holds after a store, where it holds of what is stored there
-pub set-keeps : {A : Type 0} (P : A → Type 0) (d : A) (xs : List A) (i : ℕ) (x : A) (k : ℕ) → (i ≡ k → P x) → P (getD xs k d) → P (getD (set xs i x) k d)
+pub set-keeps : {A : Type 0} (P : A → Type 0) (d : A) (xs : List A) (i : ℕ) (x : A) (k : ℕ) → (i ≡ k → P x) → P (getD xs k d)
+    → P (getD (set xs i x) k d)
 set-keeps P d [] i x k f h = h
 set-keeps P d (y ∷ ys) zero x zero f h = f refl
 set-keeps P d (y ∷ ys) zero x (suc k) f h = h
@@ -67,7 +69,8 @@ module _ (t : List ℕ) (a : ℕ) (clocks : List ℕ) where
   reset-at (suc n) i l h =
       ⊎-elim
       (λ (e : i ≡ n). rw (← e) (getD-set-same (resetBelow t a clocks i) (resetAt t a i) 0 0 (rw (reset-length i) h)))
-      (λ (m : i < n). set-keeps (λ (x : ℕ). x ≡ 0) 0 (resetBelow t a clocks n) (resetAt t a n) 0 (resetAt t a i) (λ e. refl) (reset-at n i m h))
+      (λ (m : i < n). set-keeps (λ (x : ℕ). x ≡ 0) 0 (resetBelow t a clocks n) (resetAt t a n) 0 (resetAt t a i) (λ e. refl)
+      (reset-at n i m h))
       (eq-or-lt-of-le (le-of-suc-le-suc l))
 
   -- any other clock is as before
@@ -92,7 +95,8 @@ module _ (clocks : List ℕ) (delta : ℕ) where
   shifted-at (suc n) i l h =
       ⊎-elim
       (λ (e : i ≡ n). rw e (getD-set-same (shiftedBelow clocks delta n) n (getD clocks n 0 + delta) 0 (rw (shifted-length n) h)))
-      (λ (m : i < n). getD-set-other (shiftedBelow clocks delta n) n i (getD clocks n 0 + delta) 0 (λ e. omega arith) ∙ shifted-at n i m (omega arith))
+      (λ (m : i < n). getD-set-other (shiftedBelow clocks delta n) n i (getD clocks n 0 + delta) 0 (λ e. omega arith)
+      ∙ shifted-at n i m (omega arith))
       (eq-or-lt-of-le (le-of-suc-le-suc l))
 
 -- a clock that is not yet moved
@@ -126,12 +130,14 @@ assigned-length s v (Known x) rest = length-set (s .vars) v (record { value = x 
 assigned-length s v NoValue rest = refl
 
 -- one effect keeps every other variable
-assigned-other : (s : Effected) (v : ℕ) (e : Evaluated) (rest w : ℕ) → (v ≡ w → ⊥) → getD (assigned s v e rest .vars) w blank ≡ getD (s .vars) w blank
+assigned-other : (s : Effected) (v : ℕ) (e : Evaluated) (rest w : ℕ) → (v ≡ w → ⊥)
+    → getD (assigned s v e rest .vars) w blank ≡ getD (s .vars) w blank
 assigned-other s v (Known x) rest w h = getD-set-other (s .vars) v w (record { value = x }) blank (λ e. h (sym e))
 assigned-other s v NoValue rest w h = refl
 
 -- an effect without a value keeps the variables
-undone : (s : Effected) (v : ℕ) (e : Evaluated) (rest : ℕ) → s .fits ≡ true → assigned s v e rest .fits ≡ false → assigned s v e rest .vars ≡ s .vars
+undone : (s : Effected) (v : ℕ) (e : Evaluated) (rest : ℕ) → s .fits ≡ true → assigned s v e rest .fits ≡ false
+    → assigned s v e rest .vars ≡ s .vars
 undone s v (Known x) rest f h = never (sym h ∙ f)
 undone s v NoValue rest f h = refl
 
@@ -152,11 +158,13 @@ next-stops s v items h = rw h
 
 -- what one effect and what none keeps is kept
 pub next-keeps : (P : Effected → Type 0) (s : Effected) (v : ℕ) (items : List ℕ)
-    → P (assigned s v (evaluationOf (s .vars) (s .word) items .value) (evaluationOf (s .vars) (s .word) items .rest)) → P s → P (effectNext s v items)
+    → P (assigned s v (evaluationOf (s .vars) (s .word) items .value) (evaluationOf (s .vars) (s .word) items .rest)) → P s
+    → P (effectNext s v items)
 unfolding effectNext
 next-keeps P s v items h k = by (s .fits)
   where
-    by : (b : Bool) → P (cond b (assigned s v (evaluationOf (s .vars) (s .word) items .value) (evaluationOf (s .vars) (s .word) items .rest)) s)
+    by : (b : Bool)
+        → P (cond b (assigned s v (evaluationOf (s .vars) (s .word) items .value) (evaluationOf (s .vars) (s .word) items .rest)) s)
     by true = h
     by false = k
 
@@ -194,7 +202,8 @@ module _ (t : List ℕ) (a : ℕ) (s : Effected) where
       (eq-or-lt-of-le l)
 
   -- a variable that no effect assigns is as before
-  pub effects-other : (n v : ℕ) → ((e : ℕ) → e < n → effectVar t a e ≡ v → ⊥) → getD (effectsBelow t a s n .vars) v blank ≡ getD (s .vars) v blank
+  pub effects-other : (n v : ℕ) → ((e : ℕ) → e < n → effectVar t a e ≡ v → ⊥)
+      → getD (effectsBelow t a s n .vars) v blank ≡ getD (s .vars) v blank
   unfolding effectsBelow
   effects-other n v h = effects-since 0 n v (omega arith) (λ e k l. h e l)
 

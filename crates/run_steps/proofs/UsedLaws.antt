@@ -36,7 +36,8 @@ module _ (t : List ℕ) (clocks : List ℕ) (xs ys : List ℕ) (n : ℕ) (same :
       (λ p l. any-same (awaitedOf t clocks xs n p) (awaitedOf t clocks ys n p) (transitionCount t)
       (λ k m. rw (same p l, shared-same (actionOf (keyOf t k)))))
 
-  pub shared-entries-same : (vars : List Slot) (action : ℕ) → sharedEntries t vars clocks xs n action ≡ sharedEntries t vars clocks ys n action
+  pub shared-entries-same : (vars : List Slot) (action : ℕ)
+      → sharedEntries t vars clocks xs n action ≡ sharedEntries t vars clocks ys n action
   unfolding sharedEntries
   shared-entries-same vars action =
       rw (shared-same action)

@@ -30,7 +30,9 @@ module _ (ws : List ℕ) (n v : ℕ) (x : Val) (size : length ws ≡ 2 * variabl
   long = length-set ws (2 * v) (kindIn x)
 
   pub value-here : getD (slotsOf written) v blank ≡ record { value = x }
-  value-here = ap (λ (ss : List Slot). getD ss v blank) slots-written ∙ getD-set-same (slotsOf ws) v (record { value = x }) blank (omega (arith, slots-length ws variableRoom size))
+  value-here =
+      ap (λ (ss : List Slot). getD ss v blank) slots-written
+      ∙ getD-set-same (slotsOf ws) v (record { value = x }) blank (omega (arith, slots-length ws variableRoom size))
 
   pub value-there : (u : ℕ) → (u ≡ v → ⊥) → getD (slotsOf written) u blank ≡ getD (slotsOf ws) u blank
   value-there u d = ap (λ (ss : List Slot). getD ss u blank) slots-written ∙ getD-set-other (slotsOf ws) v u (record { value = x }) blank d
@@ -49,7 +51,9 @@ module _ (ws : List ℕ) (n v : ℕ) (x : Val) (size : length ws ≡ 2 * variabl
 
   -- written, every pair is that of its value, if the others were
   put-fills :
-      ((u : ℕ) → u < n → (u ≡ v → ⊥) → (getD ws (2 * u) 0 ≡ kindIn (getD (slotsOf ws) u blank .value)) × (getD ws (2 * u + 1) 0 ≡ payloadIn (getD (slotsOf ws) u blank .value)))
+      ((u : ℕ) → u < n → (u ≡ v → ⊥)
+      → (getD ws (2 * u) 0 ≡ kindIn (getD (slotsOf ws) u blank .value)) × (getD ws
+      (2 * u + 1) 0 ≡ payloadIn (getD (slotsOf ws) u blank .value)))
       → VarWords written n
   put-fills w =
       record {
@@ -61,12 +65,14 @@ module _ (ws : List ℕ) (n v : ℕ) (x : Val) (size : length ws ≡ 2 * variabl
       kind : (u : ℕ) → u < n → Dec (u ≡ v) → getD written (2 * u) 0 ≡ kindIn (getD (slotsOf written) u blank .value)
       kind u l (yes e) = rw (e, value-here) kind-here
       kind u l (no d) =
-          word-there (2 * u) (λ e. d (omega arith)) (λ e. omega arith) ∙ w u l d .0 ∙ ap (λ (s : Slot). kindIn (s .value)) (sym (value-there u d))
+          word-there (2 * u) (λ e. d (omega arith)) (λ e. omega arith) ∙ w u l d .0
+          ∙ ap (λ (s : Slot). kindIn (s .value)) (sym (value-there u d))
 
       payload : (u : ℕ) → u < n → Dec (u ≡ v) → getD written (2 * u + 1) 0 ≡ payloadIn (getD (slotsOf written) u blank .value)
       payload u l (yes e) = rw (e, value-here) payload-here
       payload u l (no d) =
-          word-there (2 * u + 1) (λ e. omega arith) (λ e. d (omega arith)) ∙ w u l d .1 ∙ ap (λ (s : Slot). payloadIn (s .value)) (sym (value-there u d))
+          word-there (2 * u + 1) (λ e. omega arith) (λ e. d (omega arith)) ∙ w u l d .1
+          ∙ ap (λ (s : Slot). payloadIn (s .value)) (sym (value-there u d))
 
   put-canonical : VarWords ws n → VarWords written n
   put-canonical w = put-fills (λ u l d. (w .kind u l, w .payload u l))
@@ -77,9 +83,11 @@ module _ (ws : List ℕ) (n v : ℕ) (x : Val) (size : length ws ≡ 2 * variabl
 
   put-frame : drop (2 * n) written ≡ drop (2 * n) ws
   put-frame =
-      drop-set-lt (2 * n) (set ws (2 * v) (kindIn x)) (2 * v + 1) (payloadIn x) (omega arith) ∙ drop-set-lt (2 * n) ws (2 * v) (kindIn x) (omega arith)
+      drop-set-lt (2 * n) (set ws (2 * v) (kindIn x)) (2 * v + 1) (payloadIn x) (omega arith)
+      ∙ drop-set-lt (2 * n) ws (2 * v) (kindIn x) (omega arith)
 
-  pub vars-put : {before : List ℕ} {values : List Slot} → VarsLeft n before ws values → VarsLeft n before written (set values v (record { value = x }))
+  pub vars-put : {before : List ℕ} {values : List Slot} → VarsLeft n before ws values
+      → VarsLeft n before written (set values v (record { value = x }))
   vars-put left =
       record {
         words = length-set (set ws (2 * v) (kindIn x)) (2 * v + 1) (payloadIn x) ∙ long ∙ left .words;
@@ -105,7 +113,8 @@ module _ {n : ℕ} {before after : List ℕ} {values : List Slot} (left : VarsLe
   pub left-other : (i : ℕ) → 2 * n ≤ i → getD after i 0 ≡ getD before i 0
   left-other i h =
       let e : i ≡ 2 * n + (i - 2 * n) = omega arith in
-      rw e (sym (getD-drop (2 * n) after (i - 2 * n) 0) ∙ ap (λ (l : List ℕ). getD l (i - 2 * n) 0) (left .frame) ∙ getD-drop (2 * n) before (i - 2 * n) 0)
+      rw e (sym (getD-drop (2 * n) after (i - 2 * n) 0) ∙ ap (λ (l : List ℕ). getD l (i - 2 * n) 0) (left .frame)
+      ∙ getD-drop (2 * n) before (i - 2 * n) 0)
 
 -- where the values are as before, so are the words
 pub left-back : {n : ℕ} {before after : List ℕ} → VarWords before n → VarsLeft n before after (slotsOf before) → after ≡ before

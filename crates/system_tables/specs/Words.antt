@@ -35,6 +35,10 @@ widthOf t q = getD t (channelRow q) 0
 abbrev pub channelKind : List ℕ → ℕ → ℕ → ℕ
 channelKind t q e = getD t (channelKindCell q e) 0
 
+-- all kinds of its values, in order
+abbrev pub channelKinds : List ℕ → ℕ → List ℕ
+channelKinds t q = take (widthOf t q) (drop (channelKindCell q 0) t)
+
 -- the sort of its capacity, and the capacity of one that is bounded
 abbrev pub sortOf : List ℕ → ℕ → ℕ
 sortOf t q = getD t (sortCell q) 0

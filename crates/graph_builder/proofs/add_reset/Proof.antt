@@ -29,7 +29,8 @@ returns-2 c =
     let p = c .before .before in
     let e = p .before .before in
     let k = e .before .before in
-    parts (done-accepted (k .before .before .before .args .t .now) (sym (k .reset-check .ensures) ∙ e .enum-told .given .1) (p .put-reset .ensures))
+    parts (done-accepted (k .before .before .before .args .t .now) (sym (k .reset-check .ensures) ∙ e .enum-told .given .1)
+    (p .put-reset .ensures))
 
 pub add-reset-spec : {M : Type 1} → statement M
 add-reset-spec =

@@ -50,7 +50,8 @@ returns-2 c =
     (done-accepted (a .t .now) (sym (k .transition-check .ensures) ∙ e .enum-told .given .1)
     (p .put-transition .ensures
     ∙ ap (λ (i : ℕ). withTransition (a .t .now) i (a .guard .now) (a .limits)) (q .key-with .ensures)
-    ∙ ap (λ (b : Bool). withTransition (a .t .now) (keyWith (a .pre .0) (a .action .0) (a .post .0)) (guardOf b (a .guard .now)) (a .limits)) (sym (y .if1 .taken))))
+    ∙ ap (λ (b : Bool). withTransition (a .t .now) (keyWith (a .pre .0) (a .action .0) (a .post .0)) (guardOf b (a .guard .now))
+    (a .limits)) (sym (y .if1 .taken))))
 
 put-transition-requires-2 : tie.Need-put-transition-requires-2
 put-transition-requires-2 c κs =
@@ -72,7 +73,8 @@ returns-3 c =
     (done-accepted (a .t .now) (sym (k .transition-check .ensures) ∙ e .enum-told .given .1)
     (p .put-transition2 .ensures
     ∙ ap (λ (i : ℕ). withTransition (a .t .now) i [] (a .limits)) (q .key-with .ensures)
-    ∙ ap (λ (b : Bool). withTransition (a .t .now) (keyWith (a .pre .0) (a .action .0) (a .post .0)) (guardOf b (a .guard .now)) (a .limits)) (sym (y .if1 .left))))
+    ∙ ap (λ (b : Bool). withTransition (a .t .now) (keyWith (a .pre .0) (a .action .0) (a .post .0)) (guardOf b (a .guard .now))
+    (a .limits)) (sym (y .if1 .left))))
 
 pub add-timed-transition-spec : {M : Type 1} → statement M
 add-timed-transition-spec =

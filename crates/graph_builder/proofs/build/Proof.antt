@@ -25,7 +25,8 @@ returns-2 c =
     let n = c .before in
     let w = n .before in
     let t = w .before .before .before .args .t .now in
-    passed _ (held (w .before .well-formed .ensures) (w .if1 .left)) (stopped _ _ (le-ltb 0 (processCount t) (omega (arith, n .process-count .ensures, c .if2 .taken))))
+    passed _ (held (w .before .well-formed .ensures) (w .if1 .left))
+    (stopped _ _ (le-ltb 0 (processCount t) (omega (arith, n .process-count .ensures, c .if2 .taken))))
 
 returns-3 : tie.Need-returns-3
 unfolding buildOf
@@ -33,7 +34,8 @@ returns-3 c =
     let n = c .before in
     let w = n .before in
     let t = w .before .before .before .args .t .now in
-    passed _ (held (w .before .well-formed .ensures) (w .if1 .left)) (passed _ (lt-ltb 0 (processCount t) (omega (arith, n .process-count .ensures, c .if2 .left))) refl)
+    passed _ (held (w .before .well-formed .ensures) (w .if1 .left))
+    (passed _ (lt-ltb 0 (processCount t) (omega (arith, n .process-count .ensures, c .if2 .left))) refl)
 
 pub build-spec : {M : Type 1} → statement M
 build-spec =

@@ -37,7 +37,8 @@ returns-2 c =
     let n = p .before .before in
     let e = n .before .before in
     let k = e .before .before in
-    parts (placed-accepted (k .before .before .before .args .t .now) (sym (k .action-check .ensures) ∙ e .enum-told .given .1) (n .action-count .ensures) (p .put-action .ensures))
+    parts (placed-accepted (k .before .before .before .args .t .now) (sym (k .action-check .ensures) ∙ e .enum-told .given .1)
+    (n .action-count .ensures) (p .put-action .ensures))
 
 pub new-action-spec : {M : Type 1} → statement M
 new-action-spec =

@@ -37,7 +37,8 @@ returns-2 c =
     let n = p .before .before in
     let e = n .before .before in
     let k = e .before .before in
-    parts (placed-accepted (k .before .before .before .args .t .now) (sym (k .clock-check .ensures) ∙ e .enum-told .given .1) (n .clock-count .ensures) (p .put-clock .ensures))
+    parts (placed-accepted (k .before .before .before .args .t .now) (sym (k .clock-check .ensures) ∙ e .enum-told .given .1)
+    (n .clock-count .ensures) (p .put-clock .ensures))
 
 pub new-clock-spec : {M : Type 1} → statement M
 new-clock-spec =

@@ -21,7 +21,8 @@ use Rattle.graph_builder.proofs.new_initial_timed_location.Tie as tie
 -- a process leaves the number of locations, and of words
 process-locations : (t : List ℕ) (p l : ℕ) → locationCount (set (set t (placeCell p) l) processesCell (p + 1)) ≡ locationCount t
 process-locations t p l =
-    getD-set-other (set t (placeCell p) l) processesCell locationsCell (p + 1) 0 (λ e. absurd (omega arith)) ∙ getD-set-other t (placeCell p) locationsCell l 0 (λ e. absurd (omega arith))
+    getD-set-other (set t (placeCell p) l) processesCell locationsCell (p + 1) 0 (λ e. absurd (omega arith))
+    ∙ getD-set-other t (placeCell p) locationsCell l 0 (λ e. absurd (omega arith))
 
 process-words : (t : List ℕ) (p l : ℕ) → length (set (set t (placeCell p) l) processesCell (p + 1)) ≡ length t
 process-words t p l = length-set (set t (placeCell p) l) processesCell (p + 1) ∙ length-set t (placeCell p) l
@@ -55,8 +56,10 @@ put-location-requires c κs =
     let t = k .before .before .before .args .t .now in
     let r = initial-ready _ _ (sym (k .initial-check .ensures) ∙ e .enum-told .given .1) in
     let u = p .put-process .ensures in
-    let more : locationCount (p .put-process .last .0) ≡ locationCount t = ap locationCount u ∙ process-locations t (processCount t) (n .location-count .result) in
-    (ap length u ∙ process-words t (processCount t) (n .location-count .result) ∙ words-of _ true (r .location .formed), omega (arith, more, r .location .room), r .location .limits .0)
+    let more : locationCount (p .put-process .last .0) ≡ locationCount t =
+    ap locationCount u ∙ process-locations t (processCount t) (n .location-count .result) in
+    (ap length u ∙ process-words t (processCount t) (n .location-count .result)
+    ∙ words-of _ true (r .location .formed), omega (arith, more, r .location .room), r .location .limits .0)
 
 cast-t15 : tie.Need-cast-t15
 cast-t15 c =
@@ -77,7 +80,8 @@ returns-2 c =
     let e = n .before .before in
     let k = e .before .before in
     let a = k .before .before .before .args in
-    let same : p .put-process .last .0 ≡ withProcess (a .t .now) (locationCount (a .t .now)) = p .put-process .ensures ∙ ap (withProcess (a .t .now)) (n .location-count .ensures) in
+    let same : p .put-process .last .0 ≡ withProcess (a .t .now) (locationCount (a .t .now)) =
+    p .put-process .ensures ∙ ap (withProcess (a .t .now)) (n .location-count .ensures) in
     parts
     (placed-accepted (a .t .now) (sym (k .initial-check .ensures) ∙ e .enum-told .given .1) (n .location-count .ensures)
     (q .put-location .ensures ∙ ap (λ (u : List ℕ). withLocation u (a .invariants)) same))

@@ -28,7 +28,8 @@ returns-2 c =
     let p = c .before .before in
     let e = p .before .before in
     let k = e .before .before in
-    parts (done-accepted (k .before .before .before .args .t .now) (sym (k .process-check .ensures) ∙ e .enum-told .given .1) (p .put-process .ensures))
+    parts (done-accepted (k .before .before .before .args .t .now) (sym (k .process-check .ensures) ∙ e .enum-told .given .1)
+    (p .put-process .ensures))
 
 pub new-process-spec : {M : Type 1} → statement M
 new-process-spec =

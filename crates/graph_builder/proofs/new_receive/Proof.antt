@@ -46,7 +46,8 @@ returns-2 c =
     let n = p .before .before in
     let e = n .before .before in
     let k = e .before .before in
-    parts (placed-accepted (k .before .before .before .args .t .now) (sym (k .receive-check .ensures) ∙ e .enum-told .given .1) (n .action-count .ensures) (p .put-receive .ensures))
+    parts (placed-accepted (k .before .before .before .args .t .now) (sym (k .receive-check .ensures) ∙ e .enum-told .given .1)
+    (n .action-count .ensures) (p .put-receive .ensures))
 
 pub new-receive-spec : {M : Type 1} → statement M
 new-receive-spec =

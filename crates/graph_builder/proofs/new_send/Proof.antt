@@ -15,7 +15,8 @@ unfolding newSendOf
 returns c =
     let l = c .before in
     let k = l .before .before in
-    parts (placed-refused (k .before .before .before .before .before .before .before .args .t .now) _ _ (sym (k .send-check .ensures) ∙ l .check .given .1))
+    parts (placed-refused (k .before .before .before .before .before .before .before .args .t .now) _ _
+    (sym (k .send-check .ensures) ∙ l .check .given .1))
 
 action-count-requires : tie.Need-action-count-requires
 action-count-requires c κs =
@@ -46,7 +47,8 @@ returns-2 c =
     let n = p .before .before in
     let e = n .before .before in
     let k = e .before .before in
-    parts (placed-accepted (k .before .before .before .before .before .before .before .args .t .now) (sym (k .send-check .ensures) ∙ e .enum-told .given .1) (n .action-count .ensures) (p .put-send .ensures))
+    parts (placed-accepted (k .before .before .before .before .before .before .before .args .t .now)
+    (sym (k .send-check .ensures) ∙ e .enum-told .given .1) (n .action-count .ensures) (p .put-send .ensures))
 
 pub new-send-spec : {M : Type 1} → statement M
 new-send-spec =

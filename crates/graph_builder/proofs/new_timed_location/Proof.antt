@@ -46,7 +46,8 @@ returns-2 c =
     let n = p .before .before in
     let e = n .before .before in
     let k = e .before .before in
-    parts (placed-accepted (k .before .before .before .args .t .now) (sym (k .location-check .ensures) ∙ e .enum-told .given .1) (n .location-count .ensures) (p .put-location .ensures))
+    parts (placed-accepted (k .before .before .before .args .t .now) (sym (k .location-check .ensures) ∙ e .enum-told .given .1)
+    (n .location-count .ensures) (p .put-location .ensures))
 
 pub new-timed-location-spec : {M : Type 1} → statement M
 new-timed-location-spec =

@@ -37,7 +37,9 @@ returns-2 c =
     let n = p .before .before .before .before .before in
     let e = n .before .before in
     let k = e .before .before in
-    parts (placed-accepted (k .before .before .before .args .t .now) (sym (k .var-check .ensures) ∙ e .enum-told .given .1) (n .variable-count .ensures) (p .put-var .ensures ∙ rw (p .before .before .before .word .ensures, p .before .before .before .before .kind .ensures, p .before .before .payload .ensures)))
+    parts (placed-accepted (k .before .before .before .args .t .now) (sym (k .var-check .ensures) ∙ e .enum-told .given .1)
+    (n .variable-count .ensures) (p .put-var .ensures
+    ∙ rw (p .before .before .before .word .ensures, p .before .before .before .before .kind .ensures, p .before .before .payload .ensures)))
 
 pub new-var-spec : {M : Type 1} → statement M
 new-var-spec =

@@ -22,7 +22,8 @@ unfolding varTypeOf
 returns-2 c =
     let n = c .before in
     let w = n .before .before in
-    passed _ (held (w .before .well-formed .ensures) (w .if1 .left)) (stopped _ _ (le-ltb _ _ (rw (n .variable-count .ensures) at (c .if2 .taken))))
+    passed _ (held (w .before .well-formed .ensures) (w .if1 .left))
+    (stopped _ _ (le-ltb _ _ (rw (n .variable-count .ensures) at (c .if2 .taken))))
 
 kind-at-requires : tie.Need-kind-at-requires
 kind-at-requires c κs =
@@ -39,7 +40,8 @@ returns-3 c =
     let n = b .before in
     let w = n .before .before in
     passed _ (held (w .before .well-formed .ensures) (w .if1 .left))
-    (passed _ (lt-ltb _ _ (rw (n .variable-count .ensures) at (b .if2 .left))) (rw (eq-eqb _ _ (rw (k .kind-at .ensures) at (c .if3 .taken)))))
+    (passed _ (lt-ltb _ _ (rw (n .variable-count .ensures) at (b .if2 .left)))
+    (rw (eq-eqb _ _ (rw (k .kind-at .ensures) at (c .if3 .taken)))))
 
 returns-4 : tie.Need-returns-4
 unfolding varTypeOf
@@ -49,7 +51,8 @@ returns-4 c =
     let n = b .before in
     let w = n .before .before in
     passed _ (held (w .before .well-formed .ensures) (w .if1 .left))
-    (passed _ (lt-ltb _ _ (rw (n .variable-count .ensures) at (b .if2 .left))) (rw (ne-eqb _ _ (rw (k .kind-at .ensures) at (c .if3 .left)))))
+    (passed _ (lt-ltb _ _ (rw (n .variable-count .ensures) at (b .if2 .left)))
+    (rw (ne-eqb _ _ (rw (k .kind-at .ensures) at (c .if3 .left)))))
 
 pub var-type-spec : {M : Type 1} → statement M
 var-type-spec =

@@ -32,7 +32,7 @@ fn kind_for(kinds: &[u64], i: usize) -> u64
 }
 
 // A kind and a payload are those of the value that they stand for.
-fn is_value(kind: u64, payload: u64) -> bool
+pub fn is_value(kind: u64, payload: u64) -> bool
     ensures { λ r. ⌜ r ≡ isValue kind payload ⌝ }
 {
     let x = slots::value_of(kind, payload);

@@ -7,11 +7,11 @@ use crate::ids::Message;
 use crate::layout;
 use graph_tables::sizes;
 ghost use mathlib.Core.Path.{_≡_};
-ghost use Prim.Native.Nat.{_<_};
+ghost use Prim.Native.Nat.{_≤_, _<_};
 ghost use Rattle.graph_tables.specs.Sizes.{actionRoom, messageRoom, word32};
 ghost use Rattle.system_tables.specs.Sizes.{graphRoom, channelRoom};
 ghost use Rattle.system_tables.specs.Layout.{graphStart};
-ghost use Rattle.system_tables.specs.Words.{SystemWords, graphCount, channelCount, widthOf, channelKind, sortOf, boundOf};
+ghost use Rattle.system_tables.specs.Words.{SystemWords, graphCount, channelCount, widthOf, channelKind, channelKinds, sortOf, boundOf};
 ghost use Rattle.system_tables.specs.Words.{capacityOf, graphPart, communicationAt, messagePart, channelPart};
 ghost use Rattle.system_tables.specs.Words.{messageOf, communicationIn, communicationOf};
 ghost use Rattle.system_tables.specs.Sound.{BoundFits};
@@ -42,6 +42,16 @@ pub fn channel_kind(t: &[u64], q: usize, e: usize) -> u64
     ensures { λ r. ⌜ r ≡ channelKind (now (t .entry)) q e ⌝ }
 {
     t[layout::CHANNELS_START + layout::CHANNEL_SPAN * q + (layout::KINDS + e)]
+}
+
+// All kinds of a channel's values.
+pub fn kinds_at(t: &[u64], q: usize) -> &[u64]
+    requires { ⌜ SystemWords (now t) × (q < channelRoom) × (widthOf (now t) q ≤ messageRoom) ⌝ }
+    ensures { λ r. ⌜ now r ≡ channelKinds (now (t .entry)) q ⌝ }
+{
+    let a = layout::CHANNELS_START + layout::CHANNEL_SPAN * q + layout::KINDS;
+    let e = a + width_of(t, q);
+    &t[a..e]
 }
 
 pub fn sort_of(t: &[u64], q: usize) -> u64

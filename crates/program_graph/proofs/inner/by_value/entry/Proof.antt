@@ -1,7 +1,6 @@
-use Prim.Native.Nat.{ℕ, zero, suc, _+_, _-_, _*_, _/_, _%_, _≤_, _<_}
-use mathlib.Core.Path.{_≡_, refl, sym, ap, _∙_}
+use Prim.Native.Nat.{_-_}
+use mathlib.Core.Path.{refl, ap, _∙_}
 use native.Mathlib.Omega.{arith}
-use lib.ListN.{length, getD, set, length-set}
 use borrow.Author.Needs.{needs}
 use Rattle.program_graph.proofs.LeaveLaws.{variables-same}
 use Rattle.program_graph.proofs.ValueLaws.{stored-run, listed-back}
@@ -11,21 +10,11 @@ use Rattle.run_steps.specs.Listing.{seek}
 use Rattle.program_graph.specs.Transitions.{entryOrEnd}
 use Rattle.program_graph.proofs.inner.by_value.entry.Statement.{statement}
 use Rattle.program_graph.proofs.inner.by_value.entry.Tie as tie
-use Rattle.program_graph.proofs.inner.by_value.entry.Reads as reads
-use Rattle.program_graph.proofs.inner.by_value.entry.Lts as lts
-use Rattle.program_graph.proofs.inner.listing.listed_on.Reads as listed-on-reads
-use Rattle.program_graph.proofs.inner.words.store.Reads as store-reads
-
-slice-aggregate-store : tie.Need-slice-aggregate-store
-slice-aggregate-store c = search needs
 
 store-requires : tie.Need-store-requires
 store-requires c κs =
     let s = c .before .before in
     (refl, omega (arith, variables-same (s .args .t .now) (s .args .run) (s .pre .1), s .pre .0 .counts .variables))
-
-slice-aggregate-listed-on : tie.Need-slice-aggregate-listed-on
-slice-aggregate-listed-on c = search needs
 
 listed-on-requires : tie.Need-listed-on-requires
 listed-on-requires c κs =
@@ -37,14 +26,16 @@ returns : tie.Need-returns
 returns c =
     let k = c .before .before .before in
     let s = k .before .before .before in
-    c .listed-on .ensures ∙ ap (λ (l : List Entry). entryOrEnd (seek l (s .args .k))) (listed-back (s .args .t .now) (s .args .run) (k .store .last .0) (s .pre .0) (s .pre .1) (k .store .ensures))
+    c .listed-on .ensures
+    ∙ ap (λ (l : List Entry). entryOrEnd (seek l (s .args .k)))
+    (listed-back (s .args .t .now) (s .args .run) (k .store .last .0) (s .pre .0) (s .pre .1) (k .store .ensures))
 
 pub entry-spec : {M : Type 1} → statement M
 entry-spec =
     tie.close
     (tie.spec
-    slice-aggregate-store
+    (λ c. search needs)
     store-requires
-    slice-aggregate-listed-on
+    (λ c. search needs)
     listed-on-requires
     returns)

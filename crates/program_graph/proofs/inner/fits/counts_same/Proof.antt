@@ -16,7 +16,8 @@ unfolding countsSame
 returns-2 c =
     let v = c .before .before in
     let a = v .before in
-    and-yes (eq-eqb _ _ (rw (a .before .before .process-count .ensures) at (a .if1 .left))) (and-no _ (ne-eqb _ _ (rw (v .variable-count .ensures) at (c .if2 .taken))))
+    and-yes (eq-eqb _ _ (rw (a .before .before .process-count .ensures) at (a .if1 .left)))
+    (and-no _ (ne-eqb _ _ (rw (v .variable-count .ensures) at (c .if2 .taken))))
 
 returns-3 : tie.Need-returns-3
 unfolding countsSame

@@ -1,25 +1,14 @@
-use Prim.Native.Nat.{ℕ, _≤_, _<_, _-_}
+use Prim.Native.Nat.{_≤_, _-_}
 use mathlib.Core.Path.{_≡_, sym}
-use mathlib.Core.Bool.{true, false}
-use mathlib.Core.List.{List}
+use mathlib.Core.Bool.{true}
 use native.Mathlib.Omega.{arith}
-use lib.ListN.{getD}
 use borrow.Author.Needs.{needs}
-use borrow.Author.Tests.{lt-ltb, le-ltb}
 use Rattle.laws.specs.Below.{allBelow}
 use Rattle.laws.proofs.BelowLaws.{all-none, all-more, all-fails, all-done}
-use Rattle.graph_tables.specs.Words.{locationCount}
 use Rattle.program_graph.specs.Running.{placeKnown}
+use Rattle.program_graph.proofs.FitLaws.{place-known, place-unknown}
 use Rattle.program_graph.proofs.inner.fits.places_known.Statement.{statement}
 use Rattle.program_graph.proofs.inner.fits.places_known.Tie as tie
-
-known : (t places : List ℕ) (p : ℕ) → getD places p 0 < locationCount t → placeKnown t places p ≡ true
-unfolding placeKnown
-known t places p h = lt-ltb _ _ h
-
-unknown : (t places : List ℕ) (p : ℕ) → locationCount t ≤ getD places p 0 → placeKnown t places p ≡ false
-unfolding placeKnown
-unknown t places p h = le-ltb _ _ h
 
 abbrev Inv-loop : tie.InvT-loop
 Inv-loop t n places locations p₀ p = (p ≤ n) × (allBelow p (placeKnown t places) ≡ true)
@@ -31,10 +20,10 @@ loop-holds : tie.Need-loop-holds Inv-loop μ-loop
 loop-holds c = (search needs, all-none _)
 
 returns : tie.Need-returns Inv-loop μ-loop
-returns c = sym (all-fails _ _ (c .before .before .loop .p) (omega arith) (unknown _ _ _ (omega arith)))
+returns c = sym (all-fails _ _ (c .before .before .loop .p) (omega arith) (place-unknown _ _ _ (omega arith)))
 
 loop-again : tie.Need-loop-again Inv-loop μ-loop
-loop-again c = (omega arith, all-more _ _ (c .before .before .loop .inv .1) (known _ _ _ (omega arith)))
+loop-again c = (omega arith, all-more _ _ (c .before .before .loop .inv .1) (place-known _ _ _ (omega arith)))
 
 returns-2 : tie.Need-returns-2 Inv-loop μ-loop
 returns-2 c = sym (all-done _ _ (c .before .loop .p) (omega arith) (omega arith) (c .before .loop .inv .1))

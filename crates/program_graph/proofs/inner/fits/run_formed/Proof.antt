@@ -52,7 +52,8 @@ returns-3 c =
     let b = c .before .before in
     let p = b .before in
     let a = p .before .before in
-    and-yes (held (a .before .counts-same .ensures) (a .if1 .left)) (and-yes (held (p .places-known .ensures) (b .if2 .left)) (c .vars-fit .ensures))
+    and-yes (held (a .before .counts-same .ensures) (a .if1 .left))
+    (and-yes (held (p .places-known .ensures) (b .if2 .left)) (c .vars-fit .ensures))
 
 pub run-formed-spec : {M : Type 1} → statement M
 run-formed-spec =

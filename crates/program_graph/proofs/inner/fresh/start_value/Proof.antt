@@ -12,7 +12,9 @@ use Rattle.program_graph.proofs.inner.fresh.start_value.Statement.{stat
 use Rattle.program_graph.proofs.inner.fresh.start_value.Tie as tie
 
 returns : tie.Need-returns
-returns c = let k = c .before in rw (eq-eqb _ _ (rw (k .kind-at .ensures) at (c .if1 .taken))) (ap (λ (n : ℕ). Boolean (eqb n 1)) (k .before .value-at .ensures))
+returns c =
+    let k = c .before in
+    rw (eq-eqb _ _ (rw (k .kind-at .ensures) at (c .if1 .taken))) (ap (λ (n : ℕ). Boolean (eqb n 1)) (k .before .value-at .ensures))
 
 cast-from-bits : tie.Need-cast-from-bits
 cast-from-bits c = let s = c .before .before .before .before in omega (arith, s .pre .0 .variable _ (s .pre .1) .fits)
@@ -23,7 +25,8 @@ returns-2 c =
     let k = b .before in
     let n = c .from-bits .result in
     let e : toZ w32 (ofZ w32 n) ≡ n = search needs in
-    rw (ne-eqb _ _ (rw (k .kind-at .ensures) at (b .if1 .left))) (ap Integer (e ∙ c .from-bits .ensures ∙ ap fromBits (k .before .value-at .ensures)))
+    rw (ne-eqb _ _ (rw (k .kind-at .ensures) at (b .if1 .left))) (ap Integer
+    (e ∙ c .from-bits .ensures ∙ ap fromBits (k .before .value-at .ensures)))
 
 pub start-value-spec : {M : Type 1} → statement M
 start-value-spec =

@@ -1,7 +1,6 @@
-use Prim.Native.Nat.{ℕ, zero, suc, _+_, _-_, _*_, _/_, _%_, _≤_, _<_}
-use mathlib.Core.Path.{_≡_, refl, sym, ap, _∙_}
+use Prim.Native.Nat.{_+_, _-_}
+use mathlib.Core.Path.{_≡_, refl, ap, _∙_}
 use native.Mathlib.Omega.{arith}
-use lib.ListN.{length, getD, set, length-set}
 use borrow.Author.Needs.{needs}
 use mathlib.Core.List.{List}
 use Rattle.graph_tables.specs.declared.answers.Entry.{Entry}
@@ -12,43 +11,12 @@ use Rattle.program_graph.proofs.WordLaws.{vars-length, times-length}
 use Rattle.program_graph.proofs.LeaveLaws.{few-places, lent-known, listing-lent}
 use Rattle.program_graph.proofs.inner.listing.listed_on.Statement.{statement}
 use Rattle.program_graph.proofs.inner.listing.listed_on.Tie as tie
-use Rattle.program_graph.proofs.inner.listing.listed_on.Reads as reads
-use Rattle.program_graph.proofs.inner.listing.listed_on.Lts as lts
-use Rattle.program_graph.proofs.inner.listing.entry_or_end.Reads as entry-or-end-reads
-use Rattle.run_steps.proofs.inner.listing.seek_entry.Reads as seek-entry-reads
-
-shared-slice-read-n : tie.Need-shared-slice-read-n
-shared-slice-read-n c = search needs
-
-sub-seek-entry : tie.Need-sub-seek-entry
-sub-seek-entry c = search needs
-
-part-seek-entry-start : tie.Need-part-seek-entry-start
-part-seek-entry-start c = search needs
-
-part-seek-entry-end : tie.Need-part-seek-entry-end
-part-seek-entry-end c = search needs
-
-sub-seek-entry-2 : tie.Need-sub-seek-entry-2
-sub-seek-entry-2 c = search needs
-
-part-seek-entry-start-2 : tie.Need-part-seek-entry-start-2
-part-seek-entry-start-2 c = search needs
-
-part-seek-entry-end-2 : tie.Need-part-seek-entry-end-2
-part-seek-entry-end-2 c = search needs
 
 add-seek-entry : tie.Need-add-seek-entry
 add-seek-entry c =
     let s = c .before .before .before .before .before in
     let few = few-places (s .args .t .now) (s .args .r .now) (s .pre .0) (s .pre .1) _ refl in
     omega (arith, few)
-
-sub-seek-entry-3 : tie.Need-sub-seek-entry-3
-sub-seek-entry-3 c = search needs
-
-part-seek-entry-start-3 : tie.Need-part-seek-entry-start-3
-part-seek-entry-start-3 c = search needs
 
 part-seek-entry-end-3 : tie.Need-part-seek-entry-end-3
 part-seek-entry-end-3 c =
@@ -61,10 +29,8 @@ seek-entry-requires c κs =
     let s = c .before .before .before .before .before .before in
     let n = runProcesses (s .args .r .now) in
     let e : 3 + n - 3 ≡ n = omega arith in
-    (s .pre .0, vars-length (s .args .r .now) (s .pre .1 .words), times-length (s .args .r .now) (s .pre .1 .words), rw e (lent-known (s .args .t .now) (s .args .r .now) (s .pre .0) (s .pre .1) n refl))
-
-entry-or-end-requires : tie.Need-entry-or-end-requires
-entry-or-end-requires c κs = search needs
+    (s .pre .0, vars-length (s .args .r .now) (s .pre .1 .words), times-length (s .args .r .now) (s .pre .1 .words),
+    rw e (lent-known (s .args .t .now) (s .args .r .now) (s .pre .0) (s .pre .1) n refl))
 
 returns : tie.Need-returns
 returns c =
@@ -73,23 +39,26 @@ returns c =
     let n = runProcesses (s .args .r .now) in
     let e : 3 + n - 3 ≡ n = omega arith in
     let given = rw e at (k .seek-entry .ensures) in
-    c .entry-or-end .ensures ∙ ap entryOrEnd (given ∙ ap (λ (l : List Entry). seek l (s .args .k)) (listing-lent (s .args .t .now) (s .args .r .now) (s .pre .0) (s .pre .1) n refl _ _))
+    c .entry-or-end .ensures
+    ∙ ap entryOrEnd
+    (given
+    ∙ ap (λ (l : List Entry). seek l (s .args .k)) (listing-lent (s .args .t .now) (s .args .r .now) (s .pre .0) (s .pre .1) n refl _ _))
 
 pub listed-on-spec : {M : Type 1} → statement M
 listed-on-spec =
     tie.close
     (tie.spec
-    shared-slice-read-n
-    sub-seek-entry
-    part-seek-entry-start
-    part-seek-entry-end
-    sub-seek-entry-2
-    part-seek-entry-start-2
-    part-seek-entry-end-2
+    (λ c. search needs)
+    (λ c. search needs)
+    (λ c. search needs)
+    (λ c. search needs)
+    (λ c. search needs)
+    (λ c. search needs)
+    (λ c. search needs)
     add-seek-entry
-    sub-seek-entry-3
-    part-seek-entry-start-3
+    (λ c. search needs)
+    (λ c. search needs)
     part-seek-entry-end-3
     seek-entry-requires
-    entry-or-end-requires
+    (λ c κs. search needs)
     returns)

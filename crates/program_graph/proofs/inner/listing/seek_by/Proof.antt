@@ -1,7 +1,6 @@
-use Prim.Native.Nat.{ℕ, zero, suc, _+_, _-_, _*_, _/_, _%_, _≤_, _<_}
-use mathlib.Core.Path.{_≡_, refl, sym, ap, _∙_}
+use Prim.Native.Nat.{_+_, _-_}
+use mathlib.Core.Path.{_≡_, refl, ap, _∙_}
 use native.Mathlib.Omega.{arith}
-use lib.ListN.{length, getD, set, length-set}
 use borrow.Author.Needs.{needs}
 use mathlib.Core.List.{List}
 use Rattle.graph_tables.specs.declared.answers.Entry.{Entry}
@@ -11,42 +10,12 @@ use Rattle.program_graph.proofs.WordLaws.{vars-length, times-length}
 use Rattle.program_graph.proofs.LeaveLaws.{few-places, lent-known, shared-lent}
 use Rattle.program_graph.proofs.inner.listing.seek_by.Statement.{statement}
 use Rattle.program_graph.proofs.inner.listing.seek_by.Tie as tie
-use Rattle.program_graph.proofs.inner.listing.seek_by.Reads as reads
-use Rattle.program_graph.proofs.inner.listing.seek_by.Lts as lts
-use Rattle.run_steps.proofs.inner.listing.seek_action.Reads as seek-action-reads
-
-shared-slice-read-n : tie.Need-shared-slice-read-n
-shared-slice-read-n c = search needs
-
-sub-seek-action : tie.Need-sub-seek-action
-sub-seek-action c = search needs
-
-part-seek-action-start : tie.Need-part-seek-action-start
-part-seek-action-start c = search needs
-
-part-seek-action-end : tie.Need-part-seek-action-end
-part-seek-action-end c = search needs
-
-sub-seek-action-2 : tie.Need-sub-seek-action-2
-sub-seek-action-2 c = search needs
-
-part-seek-action-start-2 : tie.Need-part-seek-action-start-2
-part-seek-action-start-2 c = search needs
-
-part-seek-action-end-2 : tie.Need-part-seek-action-end-2
-part-seek-action-end-2 c = search needs
 
 add-seek-action : tie.Need-add-seek-action
 add-seek-action c =
     let s = c .before .before .before .before .before in
     let few = few-places (s .args .t .now) (s .args .r .now) (s .pre .0) (s .pre .1) _ refl in
     omega (arith, few)
-
-sub-seek-action-3 : tie.Need-sub-seek-action-3
-sub-seek-action-3 c = search needs
-
-part-seek-action-start-3 : tie.Need-part-seek-action-start-3
-part-seek-action-start-3 c = search needs
 
 part-seek-action-end-3 : tie.Need-part-seek-action-end-3
 part-seek-action-end-3 c =
@@ -59,7 +28,8 @@ seek-action-requires c κs =
     let s = c .before .before .before .before .before .before in
     let n = runProcesses (s .args .r .now) in
     let e : 3 + n - 3 ≡ n = omega arith in
-    (s .pre .0, vars-length (s .args .r .now) (s .pre .1 .words), times-length (s .args .r .now) (s .pre .1 .words), rw e (lent-known (s .args .t .now) (s .args .r .now) (s .pre .0) (s .pre .1) n refl))
+    (s .pre .0, vars-length (s .args .r .now) (s .pre .1 .words), times-length (s .args .r .now) (s .pre .1 .words),
+    rw e (lent-known (s .args .t .now) (s .args .r .now) (s .pre .0) (s .pre .1) n refl))
 
 returns : tie.Need-returns
 returns c =
@@ -67,22 +37,23 @@ returns c =
     let n = runProcesses (s .args .r .now) in
     let e : 3 + n - 3 ≡ n = omega arith in
     let given = rw e at (c .seek-action .ensures) in
-    given ∙ ap (λ (l : List Entry). seek l (s .args .k)) (shared-lent (s .args .t .now) (s .args .r .now) (s .pre .0) (s .pre .1) n refl _ _ _)
+    given
+    ∙ ap (λ (l : List Entry). seek l (s .args .k)) (shared-lent (s .args .t .now) (s .args .r .now) (s .pre .0) (s .pre .1) n refl _ _ _)
 
 pub seek-by-spec : {M : Type 1} → statement M
 seek-by-spec =
     tie.close
     (tie.spec
-    shared-slice-read-n
-    sub-seek-action
-    part-seek-action-start
-    part-seek-action-end
-    sub-seek-action-2
-    part-seek-action-start-2
-    part-seek-action-end-2
+    (λ c. search needs)
+    (λ c. search needs)
+    (λ c. search needs)
+    (λ c. search needs)
+    (λ c. search needs)
+    (λ c. search needs)
+    (λ c. search needs)
     add-seek-action
-    sub-seek-action-3
-    part-seek-action-start-3
+    (λ c. search needs)
+    (λ c. search needs)
     part-seek-action-end-3
     seek-action-requires
     returns)

@@ -1,10 +1,7 @@
-use Prim.Native.Nat.{ℕ, zero, suc, _+_, _-_, _*_, _/_, _%_, _≤_, _<_}
-use mathlib.Core.Path.{_≡_, refl, sym, ap, _∙_}
-use native.Mathlib.Omega.{arith}
-use lib.ListN.{length, getD, set, length-set}
+use Prim.Native.Nat.{_-_}
+use mathlib.Core.Path.{refl}
 use borrow.Author.Needs.{needs}
-use borrow.Author.Tests.{eq-eqb, ne-eqb}
-use Rattle.laws.proofs.Tests.{held, failed, denied, granted}
+use Rattle.laws.proofs.Tests.{held, failed}
 use Rattle.graph_tables.specs.Refusals.{refusal}
 use Rattle.graph_tables.specs.declared.answers.Done.the-variants as Done
 use Rattle.program_graph.specs.Messaging.{heardOf}
@@ -12,33 +9,20 @@ use Rattle.program_graph.specs.Inner.{DidReceive}
 use Rattle.program_graph.proofs.LeaveLaws.{rung-stopped, rung-passed, leaves-same, few-places, taken-moved}
 use Rattle.program_graph.proofs.inner.messages.hear.Statement.{statement}
 use Rattle.program_graph.proofs.inner.messages.hear.Tie as tie
-use Rattle.program_graph.proofs.inner.messages.hear.Reads as reads
-use Rattle.program_graph.proofs.inner.messages.hear.Lts as lts
-use Rattle.program_graph.proofs.inner.messages.take_in.Reads as take-in-reads
-use Rattle.program_graph.proofs.inner.steps.move_to.Reads as move-to-reads
-use Rattle.run_steps.proofs.inner.messages.message_fits.Reads as message-fits-reads
-
-message-fits-requires : tie.Need-message-fits-requires
-message-fits-requires c κs = search needs
 
 returns : tie.Need-returns
 unfolding heardOf
 returns c =
     let k = c .before in
     let s = k .before .before .before .before in
-    rung-stopped (DidReceive (s .args .t .now) (s .args .r .now) (Done.Refused (refusal 5)) (s .args .r .now)) _ _ (failed (k .message-fits .ensures) (c .if1 .taken)) (refl, leaves-same (s .args .t .now) (s .args .r .now) (s .pre .1))
-
-take-in-requires : tie.Need-take-in-requires
-take-in-requires c κs = search needs
+    rung-stopped (DidReceive (s .args .t .now) (s .args .r .now) (Done.Refused (refusal 5)) (s .args .r .now)) _ _
+    (failed (k .message-fits .ensures) (c .if1 .taken)) (refl, leaves-same (s .args .t .now) (s .args .r .now) (s .pre .1))
 
 move-to-requires : tie.Need-move-to-requires
 move-to-requires c κs =
     let i = c .before .before .before in
     let s = i .before .before .before .before .before .before .before in
     (i .take-in .ensures .0 .words, few-places (s .args .t .now) (s .args .r .now) (s .pre .0) (s .pre .1) _ (s .pre .2))
-
-same-length : tie.Need-same-length
-same-length c = search needs
 
 returns-2 : tie.Need-returns-2
 unfolding heardOf
@@ -48,17 +32,19 @@ returns-2 c =
     let l = i .before .before in
     let k = l .before in
     let s = k .before .before .before .before in
-    rung-passed (DidReceive (s .args .t .now) (s .args .r .now) Done.Accepted (m .move-to .last .0)) _ _ (held (k .message-fits .ensures) (l .if1 .left))
-    (refl, taken-moved (s .args .t .now) (s .args .r .now) (s .args .posts .now) _ _ _ (s .pre .1) (s .pre .2) (i .take-in .ensures .0) (i .take-in .ensures .1)
+    rung-passed (DidReceive (s .args .t .now) (s .args .r .now) Done.Accepted (m .move-to .last .0)) _ _
+    (held (k .message-fits .ensures) (l .if1 .left))
+    (refl, taken-moved (s .args .t .now) (s .args .r .now) (s .args .posts .now) _ _ _ (s .pre .1) (s .pre .2) (i .take-in .ensures .0)
+    (i .take-in .ensures .1)
     (m .move-to .ensures))
 
 pub hear-spec : {M : Type 1} → statement M
 hear-spec =
     tie.close
     (tie.spec
-    message-fits-requires
+    (λ c κs. search needs)
     returns
-    take-in-requires
+    (λ c κs. search needs)
     move-to-requires
-    same-length
+    (λ c. search needs)
     returns-2)

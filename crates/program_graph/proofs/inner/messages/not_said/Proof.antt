@@ -1,7 +1,5 @@
-use Prim.Native.Nat.{ℕ, zero, suc, _+_, _-_, _*_, _/_, _%_, _≤_, _<_}
-use mathlib.Core.Path.{_≡_, refl, sym, ap, _∙_}
-use native.Mathlib.Omega.{arith}
-use lib.ListN.{length, getD, set, length-set}
+use Prim.Native.Nat.{_-_}
+use mathlib.Core.Path.{sym, ap, _∙_}
 use borrow.Author.Needs.{needs}
 use Rattle.graph_tables.specs.declared.answers.Done.the-variants as Done
 use Rattle.graph_tables.specs.declared.refusals.Refusal.{Refusal}
@@ -10,12 +8,6 @@ use Rattle.graph_tables.proofs.NumberLaws.{refusal-back}
 use Rattle.run_steps.specs.Messages.{noMessage}
 use Rattle.program_graph.proofs.inner.messages.not_said.Statement.{statement}
 use Rattle.program_graph.proofs.inner.messages.not_said.Tie as tie
-use Rattle.program_graph.proofs.inner.messages.not_said.Reads as reads
-use Rattle.program_graph.proofs.inner.messages.not_said.Lts as lts
-use Rattle.run_steps.proofs.inner.messages.no_message.Reads as no-message-reads
-
-no-message-requires : tie.Need-no-message-requires
-no-message-requires c κs = search needs
 
 returns : tie.Need-returns
 returns c =
@@ -24,4 +16,4 @@ returns c =
     ∙ ap (λ (x : Refusal). record { answer = Done.Refused x; message = noMessage }) (sym (refusal-back r))
 
 pub not-said-spec : {M : Type 1} → statement M
-not-said-spec = tie.close (tie.spec no-message-requires returns)
+not-said-spec = tie.close (tie.spec (λ c κs. search needs) returns)

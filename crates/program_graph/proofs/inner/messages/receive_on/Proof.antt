@@ -1,7 +1,5 @@
-use Prim.Native.Nat.{ℕ, zero, suc, _+_, _-_, _*_, _/_, _%_, _≤_, _<_}
-use mathlib.Core.Path.{_≡_, refl, sym, ap, _∙_}
-use native.Mathlib.Omega.{arith}
-use lib.ListN.{length, getD, set, length-set}
+use Prim.Native.Nat.{_-_}
+use mathlib.Core.Path.{refl, ap}
 use borrow.Author.Needs.{needs}
 use borrow.Author.Tests.{eq-eqb, ne-eqb, eqb-true, ltb-true}
 use Rattle.laws.proofs.Tests.{held, failed}
@@ -14,21 +12,14 @@ use Rattle.graph_tables.specs.declared.answers.Done.the-variants as Done
 use mathlib.Core.Bool.{not}
 use Rattle.program_graph.proofs.inner.messages.receive_on.Statement.{statement}
 use Rattle.program_graph.proofs.inner.messages.receive_on.Tie as tie
-use Rattle.program_graph.proofs.inner.messages.receive_on.Reads as reads
-use Rattle.program_graph.proofs.inner.messages.receive_on.Lts as lts
-use Rattle.program_graph.proofs.inner.messages.hear.Reads as hear-reads
-use Rattle.program_graph.proofs.inner.steps.ready_still.Reads as ready-still-reads
-use Rattle.run_steps.proofs.inner.effects.is_kind.Reads as is-kind-reads
 
 returns : tie.Need-returns
 unfolding receivedOf
 returns c =
     let x = c in
     let s = x .before .before .before .before .before in
-    rung-stopped (DidReceive (s .args .t .now) (s .args .r .now) (Done.Refused (refusal 15)) (s .args .r .now)) _ _ (ap not (eq-eqb _ _ (x .if1 .taken))) (refl, leaves-same (s .args .t .now) (s .args .r .now) (s .pre .1))
-
-slice-read-if2 : tie.Need-slice-read-if2
-slice-read-if2 c = search needs
+    rung-stopped (DidReceive (s .args .t .now) (s .args .r .now) (Done.Refused (refusal 15)) (s .args .r .now)) _ _
+    (ap not (eq-eqb _ _ (x .if1 .taken))) (refl, leaves-same (s .args .t .now) (s .args .r .now) (s .pre .1))
 
 returns-2 : tie.Need-returns-2
 unfolding receivedOf
@@ -37,13 +28,8 @@ returns-2 c =
     let a = x .before .before in
     let s = a .before .before .before .before .before in
     let did = DidReceive (s .args .t .now) (s .args .r .now) (Done.Refused (refusal 7)) (s .args .r .now) in
-    rung-passed did _ _ (ap not (ne-eqb _ _ (a .if1 .left))) (rung-stopped did _ _ (ne-eqb _ _ (x .if2 .taken)) (refl, leaves-same (s .args .t .now) (s .args .r .now) (s .pre .1)))
-
-ready-still-requires : tie.Need-ready-still-requires
-ready-still-requires c κs = search needs
-
-same-length : tie.Need-same-length
-same-length c = search needs
+    rung-passed did _ _ (ap not (ne-eqb _ _ (a .if1 .left)))
+    (rung-stopped did _ _ (ne-eqb _ _ (x .if2 .taken)) (refl, leaves-same (s .args .t .now) (s .args .r .now) (s .pre .1)))
 
 returns-3 : tie.Need-returns-3
 unfolding receivedOf
@@ -55,13 +41,8 @@ returns-3 c =
     let s = a .before .before .before .before .before in
     let did = DidReceive (s .args .t .now) (s .args .r .now) (Done.Refused (refusal 8)) (s .args .r .now) in
     rung-passed did _ _ (ap not (ne-eqb _ _ (a .if1 .left))) (rung-passed did _ _ (eq-eqb _ _ (b .if2 .left))
-    (rung-stopped did _ _ (failed (k .ready-still .ensures) (x .if3 .taken)) (refl, leaves-same (s .args .t .now) (s .args .r .now) (s .pre .1))))
-
-is-kind-requires : tie.Need-is-kind-requires
-is-kind-requires c κs = search needs
-
-same-length-2 : tie.Need-same-length-2
-same-length-2 c = search needs
+    (rung-stopped did _ _ (failed (k .ready-still .ensures) (x .if3 .taken))
+    (refl, leaves-same (s .args .t .now) (s .args .r .now) (s .pre .1))))
 
 returns-4 : tie.Need-returns-4
 unfolding receivedOf
@@ -75,7 +56,9 @@ returns-4 c =
     let s = a .before .before .before .before .before in
     let did = DidReceive (s .args .t .now) (s .args .r .now) (Done.Refused (refusal 15)) (s .args .r .now) in
     rung-passed did _ _ (ap not (ne-eqb _ _ (a .if1 .left))) (rung-passed did _ _ (eq-eqb _ _ (b .if2 .left))
-    (rung-passed did _ _ (held (k .ready-still .ensures) (d .if3 .left)) (rung-stopped did _ _ (failed (i .is-kind .ensures) (x .if4 .taken)) (refl, leaves-same (s .args .t .now) (s .args .r .now) (s .pre .1)))))
+    (rung-passed did _ _ (held (k .ready-still .ensures) (d .if3 .left))
+    (rung-stopped did _ _ (failed (i .is-kind .ensures) (x .if4 .taken))
+    (refl, leaves-same (s .args .t .now) (s .args .r .now) (s .pre .1)))))
 
 hear-requires : tie.Need-hear-requires
 hear-requires c κs =
@@ -87,9 +70,6 @@ hear-requires c κs =
     let s = b .before .before .before .before .before .before .before in
     let kind = held (i .is-kind .ensures) (q .if4 .left) in
     (s .pre .0, s .pre .1, b .if2 .left, ltb-true _ _ (and-first _ _ kind), eqb-true _ _ (and-rest _ _ kind))
-
-same-length-3 : tie.Need-same-length-3
-same-length-3 c = search needs
 
 returns-5 : tie.Need-returns-5
 unfolding receivedOf
@@ -104,21 +84,22 @@ returns-5 c =
     let s = a .before .before .before .before .before in
     let did = DidReceive (s .args .t .now) (s .args .r .now) (h .hear .result) (h .hear .last .1 .0) in
     rung-passed did _ _ (ap not (ne-eqb _ _ (a .if1 .left))) (rung-passed did _ _ (eq-eqb _ _ (b .if2 .left))
-    (rung-passed did _ _ (held (k .ready-still .ensures) (d .if3 .left)) (rung-passed did _ _ (held (i .is-kind .ensures) (q .if4 .left)) (h .hear .ensures))))
+    (rung-passed did _ _ (held (k .ready-still .ensures) (d .if3 .left))
+    (rung-passed did _ _ (held (i .is-kind .ensures) (q .if4 .left)) (h .hear .ensures))))
 
 pub receive-on-spec : {M : Type 1} → statement M
 receive-on-spec =
     tie.close
     (tie.spec
     returns
-    slice-read-if2
+    (λ c. search needs)
     returns-2
-    ready-still-requires
-    same-length
+    (λ c κs. search needs)
+    (λ c. search needs)
     returns-3
-    is-kind-requires
-    same-length-2
+    (λ c κs. search needs)
+    (λ c. search needs)
     returns-4
     hear-requires
-    same-length-3
+    (λ c. search needs)
     returns-5)

@@ -1,12 +1,9 @@
-use Prim.Native.Nat.{ℕ, zero, suc, _+_, _-_, _*_, _/_, _%_, _≤_, _<_}
-use mathlib.Core.Path.{_≡_, refl, sym, ap, _∙_}
-use native.Mathlib.Omega.{arith}
-use lib.ListN.{length, getD, set, length-set}
+use Prim.Native.Nat.{_-_}
+use mathlib.Core.Path.{ap}
 use borrow.Author.Needs.{needs}
 use borrow.Author.Tests.{eq-eqb, ne-eqb, eqb-true, ltb-true}
 use Rattle.laws.proofs.Tests.{held, failed}
 use Rattle.laws.proofs.BelowLaws.{and-first, and-rest}
-use Rattle.graph_tables.specs.Refusals.{refusal}
 use Rattle.program_graph.specs.Messaging.{sentOf}
 use Rattle.program_graph.specs.Inner.{DidSend}
 use Rattle.program_graph.proofs.LeaveLaws.{rung-stopped, rung-passed, leaves-same}
@@ -14,28 +11,17 @@ use Rattle.program_graph.specs.declared.inner.messages.Said.{Said}
 use mathlib.Core.Bool.{not}
 use Rattle.program_graph.proofs.inner.messages.send_on.Statement.{statement}
 use Rattle.program_graph.proofs.inner.messages.send_on.Tie as tie
-use Rattle.program_graph.proofs.inner.messages.send_on.Reads as reads
-use Rattle.program_graph.proofs.inner.messages.send_on.Lts as lts
-use Rattle.program_graph.proofs.inner.messages.not_said.Reads as not-said-reads
-use Rattle.program_graph.proofs.inner.messages.say.Reads as say-reads
-use Rattle.program_graph.proofs.inner.steps.ready_still.Reads as ready-still-reads
-use Rattle.run_steps.proofs.inner.effects.is_kind.Reads as is-kind-reads
-
-not-said-requires : tie.Need-not-said-requires
-not-said-requires c κs = search needs
 
 returns : tie.Need-returns
 unfolding sentOf
 returns c =
     let x = c .before in
     let s = x .before .before .before .before .before in
-    rung-stopped (DidSend (s .args .t .now) (s .args .r .now) (c .not-said .result) (s .args .r .now)) _ _ (ap not (eq-eqb _ _ (x .if1 .taken))) (record { answer = ap (λ (x : Said). x .answer) (c .not-said .ensures); message = ap (λ (x : Said). x .message) (c .not-said .ensures); words = leaves-same (s .args .t .now) (s .args .r .now) (s .pre .1) })
-
-slice-read-if2 : tie.Need-slice-read-if2
-slice-read-if2 c = search needs
-
-not-said-requires-2 : tie.Need-not-said-requires-2
-not-said-requires-2 c κs = search needs
+    rung-stopped (DidSend (s .args .t .now) (s .args .r .now) (c .not-said .result) (s .args .r .now)) _ _
+    (ap not
+    (eq-eqb _ _ (x .if1 .taken))) (record { answer = ap (λ (x : Said). x .answer)
+    (c .not-said .ensures); message = ap (λ (x : Said). x .message) (c .not-said .ensures); words = leaves-same (s .args .t .now)
+    (s .args .r .now) (s .pre .1) })
 
 returns-2 : tie.Need-returns-2
 unfolding sentOf
@@ -44,16 +30,10 @@ returns-2 c =
     let a = x .before .before in
     let s = a .before .before .before .before .before in
     let did = DidSend (s .args .t .now) (s .args .r .now) (c .not-said2 .result) (s .args .r .now) in
-    rung-passed did _ _ (ap not (ne-eqb _ _ (a .if1 .left))) (rung-stopped did _ _ (ne-eqb _ _ (x .if2 .taken)) (record { answer = ap (λ (x : Said). x .answer) (c .not-said2 .ensures); message = ap (λ (x : Said). x .message) (c .not-said2 .ensures); words = leaves-same (s .args .t .now) (s .args .r .now) (s .pre .1) }))
-
-ready-still-requires : tie.Need-ready-still-requires
-ready-still-requires c κs = search needs
-
-not-said-requires-3 : tie.Need-not-said-requires-3
-not-said-requires-3 c κs = search needs
-
-same-length : tie.Need-same-length
-same-length c = search needs
+    rung-passed did _ _ (ap not (ne-eqb _ _ (a .if1 .left)))
+    (rung-stopped did _ _ (ne-eqb _ _ (x .if2 .taken))
+    (record { answer = ap (λ (x : Said). x .answer) (c .not-said2 .ensures); message = ap (λ (x : Said). x .message)
+    (c .not-said2 .ensures); words = leaves-same (s .args .t .now) (s .args .r .now) (s .pre .1) }))
 
 returns-3 : tie.Need-returns-3
 unfolding sentOf
@@ -65,16 +45,9 @@ returns-3 c =
     let s = a .before .before .before .before .before in
     let did = DidSend (s .args .t .now) (s .args .r .now) (c .not-said3 .result) (s .args .r .now) in
     rung-passed did _ _ (ap not (ne-eqb _ _ (a .if1 .left))) (rung-passed did _ _ (eq-eqb _ _ (b .if2 .left))
-    (rung-stopped did _ _ (failed (k .ready-still .ensures) (x .if3 .taken)) (record { answer = ap (λ (x : Said). x .answer) (c .not-said3 .ensures); message = ap (λ (x : Said). x .message) (c .not-said3 .ensures); words = leaves-same (s .args .t .now) (s .args .r .now) (s .pre .1) })))
-
-is-kind-requires : tie.Need-is-kind-requires
-is-kind-requires c κs = search needs
-
-not-said-requires-4 : tie.Need-not-said-requires-4
-not-said-requires-4 c κs = search needs
-
-same-length-2 : tie.Need-same-length-2
-same-length-2 c = search needs
+    (rung-stopped did _ _ (failed (k .ready-still .ensures) (x .if3 .taken))
+    (record { answer = ap (λ (x : Said). x .answer) (c .not-said3 .ensures); message = ap (λ (x : Said). x .message)
+    (c .not-said3 .ensures); words = leaves-same (s .args .t .now) (s .args .r .now) (s .pre .1) })))
 
 returns-4 : tie.Need-returns-4
 unfolding sentOf
@@ -88,7 +61,10 @@ returns-4 c =
     let s = a .before .before .before .before .before in
     let did = DidSend (s .args .t .now) (s .args .r .now) (c .not-said4 .result) (s .args .r .now) in
     rung-passed did _ _ (ap not (ne-eqb _ _ (a .if1 .left))) (rung-passed did _ _ (eq-eqb _ _ (b .if2 .left))
-    (rung-passed did _ _ (held (k .ready-still .ensures) (d .if3 .left)) (rung-stopped did _ _ (failed (i .is-kind .ensures) (x .if4 .taken)) (record { answer = ap (λ (x : Said). x .answer) (c .not-said4 .ensures); message = ap (λ (x : Said). x .message) (c .not-said4 .ensures); words = leaves-same (s .args .t .now) (s .args .r .now) (s .pre .1) }))))
+    (rung-passed did _ _ (held (k .ready-still .ensures) (d .if3 .left))
+    (rung-stopped did _ _ (failed (i .is-kind .ensures) (x .if4 .taken))
+    (record { answer = ap (λ (x : Said). x .answer) (c .not-said4 .ensures); message = ap (λ (x : Said). x .message)
+    (c .not-said4 .ensures); words = leaves-same (s .args .t .now) (s .args .r .now) (s .pre .1) }))))
 
 say-requires : tie.Need-say-requires
 say-requires c κs =
@@ -100,9 +76,6 @@ say-requires c κs =
     let s = b .before .before .before .before .before .before .before in
     let kind = held (i .is-kind .ensures) (q .if4 .left) in
     (s .pre .0, s .pre .1, b .if2 .left, ltb-true _ _ (and-first _ _ kind), eqb-true _ _ (and-rest _ _ kind))
-
-same-length-3 : tie.Need-same-length-3
-same-length-3 c = search needs
 
 returns-5 : tie.Need-returns-5
 unfolding sentOf
@@ -117,25 +90,26 @@ returns-5 c =
     let s = a .before .before .before .before .before in
     let did = DidSend (s .args .t .now) (s .args .r .now) (h .say .result) (h .say .last .1 .0) in
     rung-passed did _ _ (ap not (ne-eqb _ _ (a .if1 .left))) (rung-passed did _ _ (eq-eqb _ _ (b .if2 .left))
-    (rung-passed did _ _ (held (k .ready-still .ensures) (d .if3 .left)) (rung-passed did _ _ (held (i .is-kind .ensures) (q .if4 .left)) (h .say .ensures))))
+    (rung-passed did _ _ (held (k .ready-still .ensures) (d .if3 .left))
+    (rung-passed did _ _ (held (i .is-kind .ensures) (q .if4 .left)) (h .say .ensures))))
 
 pub send-on-spec : {M : Type 1} → statement M
 send-on-spec =
     tie.close
     (tie.spec
-    not-said-requires
+    (λ c κs. search needs)
     returns
-    slice-read-if2
-    not-said-requires-2
+    (λ c. search needs)
+    (λ c κs. search needs)
     returns-2
-    ready-still-requires
-    not-said-requires-3
-    same-length
+    (λ c κs. search needs)
+    (λ c κs. search needs)
+    (λ c. search needs)
     returns-3
-    is-kind-requires
-    not-said-requires-4
-    same-length-2
+    (λ c κs. search needs)
+    (λ c κs. search needs)
+    (λ c. search needs)
     returns-4
     say-requires
-    same-length-3
+    (λ c. search needs)
     returns-5)

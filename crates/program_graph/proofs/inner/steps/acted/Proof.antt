@@ -1,10 +1,7 @@
-use Prim.Native.Nat.{ℕ, zero, suc, _+_, _-_, _*_, _/_, _%_, _≤_, _<_}
-use mathlib.Core.Path.{_≡_, refl, sym, ap, _∙_}
-use native.Mathlib.Omega.{arith}
-use lib.ListN.{length, getD, set, length-set}
+use Prim.Native.Nat.{_-_}
+use mathlib.Core.Path.{refl}
 use borrow.Author.Needs.{needs}
 use borrow.Author.Tests.{eq-eqb, ne-eqb, le-ltb, lt-ltb}
-use Rattle.laws.proofs.Tests.{held, failed}
 use Rattle.graph_tables.specs.Refusals.{refusal}
 use Rattle.graph_tables.specs.declared.answers.Done.the-variants as Done
 use Rattle.program_graph.specs.Running.{actedOf}
@@ -12,14 +9,6 @@ use Rattle.program_graph.specs.Inner.{DidStep}
 use Rattle.program_graph.proofs.LeaveLaws.{rung-stopped, rung-passed, leaves-same}
 use Rattle.program_graph.proofs.inner.steps.acted.Statement.{statement}
 use Rattle.program_graph.proofs.inner.steps.acted.Tie as tie
-use Rattle.program_graph.proofs.inner.steps.acted.Reads as reads
-use Rattle.program_graph.proofs.inner.steps.acted.Lts as lts
-use Rattle.graph_tables.proofs.inner.action_count.Reads as action-count-reads
-use Rattle.graph_tables.proofs.inner.action_kind.Reads as action-kind-reads
-use Rattle.program_graph.proofs.inner.steps.plain.Reads as plain-reads
-
-action-count-requires : tie.Need-action-count-requires
-action-count-requires c κs = search needs
 
 returns : tie.Need-returns
 unfolding actedOf
@@ -28,9 +17,6 @@ returns c =
     let s = n .before .before .before .before in
     rung-stopped (DidStep (s .args .t .now) (s .args .r .now) (Done.Refused (refusal 1)) (s .args .r .now)) _ _
     (le-ltb _ _ (rw (n .action-count .ensures) at (c .if1 .taken))) (refl, leaves-same (s .args .t .now) (s .args .r .now) (s .pre .1))
-
-action-kind-requires : tie.Need-action-kind-requires
-action-kind-requires c κs = search needs
 
 returns-2 : tie.Need-returns-2
 unfolding actedOf
@@ -41,13 +27,8 @@ returns-2 c =
     let s = n .before .before .before .before in
     let did = DidStep (s .args .t .now) (s .args .r .now) (Done.Refused (refusal 13)) (s .args .r .now) in
     rung-passed did _ _ (lt-ltb _ _ (rw (n .action-count .ensures) at (b .if1 .left)))
-    (rung-stopped did _ _ (ne-eqb _ _ (rw (k .action-kind .ensures) at (c .if2 .taken))) (refl, leaves-same (s .args .t .now) (s .args .r .now) (s .pre .1)))
-
-plain-requires : tie.Need-plain-requires
-plain-requires c κs = search needs
-
-same-length : tie.Need-same-length
-same-length c = search needs
+    (rung-stopped did _ _ (ne-eqb _ _ (rw (k .action-kind .ensures) at (c .if2 .taken)))
+    (refl, leaves-same (s .args .t .now) (s .args .r .now) (s .pre .1)))
 
 returns-3 : tie.Need-returns-3
 unfolding actedOf
@@ -66,10 +47,10 @@ pub acted-spec : {M : Type 1} → statement M
 acted-spec =
     tie.close
     (tie.spec
-    action-count-requires
+    (λ c κs. search needs)
     returns
-    action-kind-requires
+    (λ c κs. search needs)
     returns-2
-    plain-requires
-    same-length
+    (λ c κs. search needs)
+    (λ c. search needs)
     returns-3)

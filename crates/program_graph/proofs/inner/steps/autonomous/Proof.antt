@@ -1,7 +1,5 @@
-use Prim.Native.Nat.{ℕ, zero, suc, _+_, _-_, _*_, _/_, _%_, _≤_, _<_}
-use mathlib.Core.Path.{_≡_, refl, sym, ap, _∙_}
-use native.Mathlib.Omega.{arith}
-use lib.ListN.{length, getD, set, length-set}
+use Prim.Native.Nat.{_-_}
+use mathlib.Core.Path.{refl}
 use borrow.Author.Needs.{needs}
 use Rattle.laws.proofs.Tests.{held, failed}
 use Rattle.graph_tables.specs.Refusals.{refusal}
@@ -12,16 +10,6 @@ use Rattle.program_graph.proofs.LeaveLaws.{rung-stopped, rung-passed, f
 use Rattle.run_steps.proofs.VarLaws.{vars-same}
 use Rattle.program_graph.proofs.inner.steps.autonomous.Statement.{statement}
 use Rattle.program_graph.proofs.inner.steps.autonomous.Tie as tie
-use Rattle.program_graph.proofs.inner.steps.autonomous.Reads as reads
-use Rattle.program_graph.proofs.inner.steps.autonomous.Lts as lts
-use Rattle.program_graph.proofs.inner.steps.move_to.Reads as move-to-reads
-use Rattle.program_graph.proofs.inner.steps.ready_still.Reads as ready-still-reads
-
-ready-still-requires : tie.Need-ready-still-requires
-ready-still-requires c κs = search needs
-
-same-length : tie.Need-same-length
-same-length c = search needs
 
 returns : tie.Need-returns
 unfolding autonomousOf
@@ -36,19 +24,18 @@ move-to-requires c κs =
     let s = c .before .before .before .before .before .before .before in
     (s .pre .1 .words, few-places (s .args .t .now) (s .args .r .now) (s .pre .0) (s .pre .1) _ (s .pre .2))
 
-same-length-2 : tie.Need-same-length-2
-same-length-2 c = search needs
-
 returns-2 : tie.Need-returns-2
 unfolding autonomousOf
 returns-2 c =
     let m = c .before .before in
     let k = m .before .before .before in
     let s = k .before .before .before .before .before in
-    rung-passed (DidStep (s .args .t .now) (s .args .r .now) Done.Accepted (m .move-to .last .0)) _ _ (held (k .ready-still .ensures) (m .before .before .if1 .left))
-    (refl, leaves-moved (s .args .t .now) (s .args .r .now) _ (s .args .posts .now) _ _ _ (s .pre .1) (s .pre .2) (m .move-to .ensures) (vars-same _ _))
+    rung-passed (DidStep (s .args .t .now) (s .args .r .now) Done.Accepted (m .move-to .last .0)) _ _
+    (held (k .ready-still .ensures) (m .before .before .if1 .left))
+    (refl, leaves-moved (s .args .t .now) (s .args .r .now) _ (s .args .posts .now) _ _ _ (s .pre .1) (s .pre .2) (m .move-to .ensures)
+    (vars-same _ _))
 
 pub autonomous-spec : {M : Type 1} → statement M
 autonomous-spec =
     tie.close
-    (tie.spec ready-still-requires same-length returns move-to-requires same-length-2 returns-2)
+    (tie.spec (λ c κs. search needs) (λ c. search needs) returns move-to-requires (λ c. search needs) returns-2)

@@ -1,7 +1,5 @@
-use Prim.Native.Nat.{ℕ, zero, suc, _+_, _-_, _*_, _/_, _%_, _≤_, _<_}
-use mathlib.Core.Path.{_≡_, refl, sym, ap, _∙_}
-use native.Mathlib.Omega.{arith}
-use lib.ListN.{length, getD, set, length-set}
+use Prim.Native.Nat.{_-_}
+use mathlib.Core.Path.{refl}
 use borrow.Author.Needs.{needs}
 use Rattle.laws.proofs.Tests.{held, failed}
 use Rattle.graph_tables.specs.Refusals.{refusal}
@@ -11,31 +9,6 @@ use Rattle.program_graph.specs.Inner.{DidStep}
 use Rattle.program_graph.proofs.LeaveLaws.{rung-stopped, rung-passed, few-places, leaves-same, effects-left, effects-moved}
 use Rattle.program_graph.proofs.inner.steps.plain.Statement.{statement}
 use Rattle.program_graph.proofs.inner.steps.plain.Tie as tie
-use Rattle.program_graph.proofs.inner.steps.plain.Reads as reads
-use Rattle.program_graph.proofs.inner.steps.plain.Lts as lts
-use Rattle.program_graph.proofs.inner.steps.move_to.Reads as move-to-reads
-use Rattle.program_graph.proofs.inner.steps.ready_on.Reads as ready-on-reads
-use Rattle.program_graph.proofs.inner.steps.run_effects.Reads as run-effects-reads
-use Rattle.program_graph.proofs.inner.steps.set_times.Reads as set-times-reads
-use Rattle.program_graph.proofs.inner.steps.times_after.Reads as times-after-reads
-
-slice-aggregate-times-after : tie.Need-slice-aggregate-times-after
-slice-aggregate-times-after c = search needs
-
-times-after-requires : tie.Need-times-after-requires
-times-after-requires c κs = search needs
-
-slice-aggregate-ready-on : tie.Need-slice-aggregate-ready-on
-slice-aggregate-ready-on c = search needs
-
-cast-ready-on : tie.Need-cast-ready-on
-cast-ready-on c = search needs
-
-ready-on-requires : tie.Need-ready-on-requires
-ready-on-requires c κs = search needs
-
-same-length : tie.Need-same-length
-same-length c = search needs
 
 returns : tie.Need-returns
 unfolding plainOf
@@ -46,12 +19,6 @@ returns c =
     let ready = rw (a .times-after .ensures) at (k .ready-on .ensures) in
     rung-stopped (DidStep (s .args .t .now) (s .args .r .now) (Done.Refused (refusal 8)) (s .args .r .now)) _ _
     (failed ready (c .if1 .taken)) (refl, leaves-same (s .args .t .now) (s .args .r .now) (s .pre .1))
-
-run-effects-requires : tie.Need-run-effects-requires
-run-effects-requires c κs = search needs
-
-same-length-2 : tie.Need-same-length-2
-same-length-2 c = search needs
 
 returns-2 : tie.Need-returns-2
 unfolding plainOf
@@ -65,13 +32,8 @@ returns-2 c =
     let none = failed (e .run-effects .ensures .answer) (c .if2 .taken) in
     let did = DidStep (s .args .t .now) (s .args .r .now) (Done.Refused (refusal 26)) (e .run-effects .last .1 .0) in
     rung-passed did _ _ (held ready (l .if1 .left))
-    (rung-stopped did _ _ none (refl, effects-left (s .args .t .now) (s .args .a) (s .args .word) (s .args .r .now) (s .pre .1) (e .run-effects .ensures) none))
-
-slice-aggregate-set-times : tie.Need-slice-aggregate-set-times
-slice-aggregate-set-times c = search needs
-
-set-times-requires : tie.Need-set-times-requires
-set-times-requires c κs = search needs
+    (rung-stopped did _ _ none
+    (refl, effects-left (s .args .t .now) (s .args .a) (s .args .word) (s .args .r .now) (s .pre .1) (e .run-effects .ensures) none))
 
 move-to-requires : tie.Need-move-to-requires
 move-to-requires c κs =
@@ -80,9 +42,6 @@ move-to-requires c κs =
     let a = e .before .before .before .before .before .before .before in
     let s = a .before .before .before .before .before .before in
     (u .set-times .ensures .words, few-places (s .args .t .now) (s .args .r .now) (s .pre .0) (s .pre .1) _ (s .pre .2))
-
-same-length-3 : tie.Need-same-length-3
-same-length-3 c = search needs
 
 returns-3 : tie.Need-returns-3
 unfolding plainOf
@@ -101,25 +60,26 @@ returns-3 c =
     let did = DidStep (s .args .t .now) (s .args .r .now) Done.Accepted (m .move-to .last .0) in
     rung-passed did _ _ (held ready (l .if1 .left))
     (rung-passed did _ _ all
-    (refl, effects-moved (s .args .t .now) (s .args .a) (s .args .word) (s .args .r .now) (s .pre .1) (e .run-effects .ensures) (s .args .posts .now) _ _ _
+    (refl, effects-moved (s .args .t .now) (s .args .a) (s .args .word) (s .args .r .now) (s .pre .1) (e .run-effects .ensures)
+    (s .args .posts .now) _ _ _
     (s .pre .2) all times (m .move-to .ensures)))
 
 pub plain-spec : {M : Type 1} → statement M
 plain-spec =
     tie.close
     (tie.spec
-    slice-aggregate-times-after
-    times-after-requires
-    slice-aggregate-ready-on
-    cast-ready-on
-    ready-on-requires
-    same-length
+    (λ c. search needs)
+    (λ c κs. search needs)
+    (λ c. search needs)
+    (λ c. search needs)
+    (λ c κs. search needs)
+    (λ c. search needs)
     returns
-    run-effects-requires
-    same-length-2
+    (λ c κs. search needs)
+    (λ c. search needs)
     returns-2
-    slice-aggregate-set-times
-    set-times-requires
+    (λ c. search needs)
+    (λ c κs. search needs)
     move-to-requires
-    same-length-3
+    (λ c. search needs)
     returns-3)

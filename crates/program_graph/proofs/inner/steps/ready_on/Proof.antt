@@ -1,42 +1,12 @@
-use Prim.Native.Nat.{ℕ, zero, suc, _+_, _-_, _*_, _/_, _%_, _≤_, _<_}
-use mathlib.Core.Path.{_≡_, refl, sym, ap, _∙_}
+use Prim.Native.Nat.{_+_, _-_}
+use mathlib.Core.Path.{_≡_, _∙_}
 use native.Mathlib.Omega.{arith}
-use lib.ListN.{length, getD, set, length-set}
+use lib.ListN.{length}
 use borrow.Author.Needs.{needs}
 use Rattle.program_graph.proofs.WordLaws.{vars-length, times-length}
 use Rattle.program_graph.proofs.LeaveLaws.{few-places, lent-length, lent-known, ready-lent}
 use Rattle.program_graph.proofs.inner.steps.ready_on.Statement.{statement}
 use Rattle.program_graph.proofs.inner.steps.ready_on.Tie as tie
-use Rattle.program_graph.proofs.inner.steps.ready_on.Reads as reads
-use Rattle.program_graph.proofs.inner.steps.ready_on.Lts as lts
-use Rattle.run_steps.proofs.inner.candidates.ready.Reads as ready-reads
-
-sub-ready : tie.Need-sub-ready
-sub-ready c = search needs
-
-part-ready-start : tie.Need-part-ready-start
-part-ready-start c = search needs
-
-part-ready-end : tie.Need-part-ready-end
-part-ready-end c = search needs
-
-sub-ready-2 : tie.Need-sub-ready-2
-sub-ready-2 c = search needs
-
-part-ready-start-2 : tie.Need-part-ready-start-2
-part-ready-start-2 c = search needs
-
-part-ready-end-2 : tie.Need-part-ready-end-2
-part-ready-end-2 c = search needs
-
-add-ready : tie.Need-add-ready
-add-ready c = search needs
-
-sub-ready-3 : tie.Need-sub-ready-3
-sub-ready-3 c = search needs
-
-part-ready-start-3 : tie.Need-part-ready-start-3
-part-ready-start-3 c = search needs
 
 part-ready-end-3 : tie.Need-part-ready-end-3
 part-ready-end-3 c =
@@ -71,15 +41,15 @@ pub ready-on-spec : {M : Type 1} → statement M
 ready-on-spec =
     tie.close
     (tie.spec
-    sub-ready
-    part-ready-start
-    part-ready-end
-    sub-ready-2
-    part-ready-start-2
-    part-ready-end-2
-    add-ready
-    sub-ready-3
-    part-ready-start-3
+    (λ c. search needs)
+    (λ c. search needs)
+    (λ c. search needs)
+    (λ c. search needs)
+    (λ c. search needs)
+    (λ c. search needs)
+    (λ c. search needs)
+    (λ c. search needs)
+    (λ c. search needs)
     part-ready-end-3
     ready-requires
     returns)

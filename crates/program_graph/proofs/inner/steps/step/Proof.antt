@@ -1,9 +1,7 @@
-use Prim.Native.Nat.{ℕ, zero, suc, _+_, _-_, _*_, _/_, _%_, _≤_, _<_}
-use mathlib.Core.Path.{_≡_, refl, sym, ap, _∙_}
-use native.Mathlib.Omega.{arith}
-use lib.ListN.{length, getD, set, length-set}
+use Prim.Native.Nat.{_-_}
+use mathlib.Core.Path.{refl}
 use borrow.Author.Needs.{needs}
-use borrow.Author.Tests.{eq-eqb, ne-eqb, le-ltb, lt-ltb}
+use borrow.Author.Tests.{eq-eqb, ne-eqb}
 use Rattle.laws.proofs.Tests.{held, failed}
 use Rattle.graph_tables.specs.Refusals.{refusal}
 use Rattle.graph_tables.specs.declared.answers.Done.the-variants as Done
@@ -12,23 +10,13 @@ use Rattle.program_graph.specs.Inner.{DidStep}
 use Rattle.program_graph.proofs.LeaveLaws.{rung-stopped, rung-passed, leaves-same, cond-taken, cond-left}
 use Rattle.program_graph.proofs.inner.steps.step.Statement.{statement}
 use Rattle.program_graph.proofs.inner.steps.step.Tie as tie
-use Rattle.program_graph.proofs.inner.steps.step.Reads as reads
-use Rattle.program_graph.proofs.inner.steps.step.Lts as lts
-use Rattle.program_graph.proofs.inner.steps.acted.Reads as acted-reads
-use Rattle.program_graph.proofs.inner.steps.autonomous.Reads as autonomous-reads
-use Rattle.run_steps.proofs.inner.effects.posts_known.Reads as posts-known-reads
-
-slice-read-if1 : tie.Need-slice-read-if1
-slice-read-if1 c = search needs
 
 returns : tie.Need-returns
 unfolding stepOf
 returns c =
     let s = c .before .before .before .before .before in
-    rung-stopped (DidStep (s .args .t .now) (s .args .r .now) (Done.Refused (refusal 7)) (s .args .r .now)) _ _ (ne-eqb _ _ (c .if1 .taken)) (refl, leaves-same (s .args .t .now) (s .args .r .now) (s .pre .1))
-
-posts-known-requires : tie.Need-posts-known-requires
-posts-known-requires c κs = search needs
+    rung-stopped (DidStep (s .args .t .now) (s .args .r .now) (Done.Refused (refusal 7)) (s .args .r .now)) _ _ (ne-eqb _ _ (c .if1 .taken))
+    (refl, leaves-same (s .args .t .now) (s .args .r .now) (s .pre .1))
 
 returns-2 : tie.Need-returns-2
 unfolding stepOf
@@ -38,13 +26,8 @@ returns-2 c =
     let s = b .before .before .before .before .before in
     let did = DidStep (s .args .t .now) (s .args .r .now) (Done.Refused (refusal 3)) (s .args .r .now) in
     rung-passed did _ _ (eq-eqb _ _ (b .if1 .left))
-    (rung-stopped did _ _ (failed (k .posts-known .ensures) (c .if2 .taken)) (refl, leaves-same (s .args .t .now) (s .args .r .now) (s .pre .1)))
-
-autonomous-requires : tie.Need-autonomous-requires
-autonomous-requires c κs = search needs
-
-same-length : tie.Need-same-length
-same-length c = search needs
+    (rung-stopped did _ _ (failed (k .posts-known .ensures) (c .if2 .taken))
+    (refl, leaves-same (s .args .t .now) (s .args .r .now) (s .pre .1)))
 
 returns-3 : tie.Need-returns-3
 unfolding stepOf
@@ -57,13 +40,8 @@ returns-3 c =
     let s = b .before .before .before .before .before in
     let did = DidStep (s .args .t .now) (s .args .r .now) (p .autonomous .result) (p .autonomous .last .1 .0) in
     rung-passed did _ _ (eq-eqb _ _ (b .if1 .left))
-    (rung-passed did _ _ (held (k .posts-known .ensures) (d .if2 .left)) (cond-taken did _ _ (eq-eqb _ _ (f .if3 .taken)) (p .autonomous .ensures)))
-
-acted-requires : tie.Need-acted-requires
-acted-requires c κs = search needs
-
-same-length-2 : tie.Need-same-length-2
-same-length-2 c = search needs
+    (rung-passed did _ _ (held (k .posts-known .ensures) (d .if2 .left))
+    (cond-taken did _ _ (eq-eqb _ _ (f .if3 .taken)) (p .autonomous .ensures)))
 
 returns-4 : tie.Need-returns-4
 unfolding stepOf
@@ -76,19 +54,20 @@ returns-4 c =
     let s = b .before .before .before .before .before in
     let did = DidStep (s .args .t .now) (s .args .r .now) (p .acted .result) (p .acted .last .1 .0) in
     rung-passed did _ _ (eq-eqb _ _ (b .if1 .left))
-    (rung-passed did _ _ (held (k .posts-known .ensures) (d .if2 .left)) (cond-left did _ _ (ne-eqb _ _ (f .if3 .left)) (p .acted .ensures)))
+    (rung-passed did _ _ (held (k .posts-known .ensures) (d .if2 .left))
+    (cond-left did _ _ (ne-eqb _ _ (f .if3 .left)) (p .acted .ensures)))
 
 pub step-spec : {M : Type 1} → statement M
 step-spec =
     tie.close
     (tie.spec
-    slice-read-if1
+    (λ c. search needs)
     returns
-    posts-known-requires
+    (λ c κs. search needs)
     returns-2
-    autonomous-requires
-    same-length
+    (λ c κs. search needs)
+    (λ c. search needs)
     returns-3
-    acted-requires
-    same-length-2
+    (λ c κs. search needs)
+    (λ c. search needs)
     returns-4)

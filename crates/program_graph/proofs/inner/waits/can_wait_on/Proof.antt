@@ -1,19 +1,9 @@
-use Prim.Native.Nat.{ℕ, zero, suc, _+_, _-_, _*_, _/_, _%_, _≤_, _<_}
-use mathlib.Core.Path.{_≡_, refl, sym, ap, _∙_}
-use native.Mathlib.Omega.{arith}
-use lib.ListN.{length, getD, set, length-set}
+use Prim.Native.Nat.{_-_}
 use borrow.Author.Needs.{needs}
 use Rattle.laws.proofs.Tests.{held, failed}
 use Rattle.laws.proofs.BelowLaws.{and-yes, and-no}
 use Rattle.program_graph.proofs.inner.waits.can_wait_on.Statement.{statement}
 use Rattle.program_graph.proofs.inner.waits.can_wait_on.Tie as tie
-use Rattle.program_graph.proofs.inner.waits.can_wait_on.Reads as reads
-use Rattle.program_graph.proofs.inner.waits.can_wait_on.Lts as lts
-use Rattle.program_graph.proofs.inner.waits.wait_fits.Reads as wait-fits-reads
-use Rattle.program_graph.proofs.inner.waits.wait_holds.Reads as wait-holds-reads
-
-wait-fits-requires : tie.Need-wait-fits-requires
-wait-fits-requires c κs = search needs
 
 returns : tie.Need-returns
 returns c = and-no _ (failed (c .before .wait-fits .ensures) (c .if1 .taken))
@@ -27,4 +17,4 @@ returns-2 : tie.Need-returns-2
 returns-2 c = let l = c .before in and-yes (held (l .before .wait-fits .ensures) (l .if1 .left)) (c .wait-holds .ensures)
 
 pub can-wait-on-spec : {M : Type 1} → statement M
-can-wait-on-spec = tie.close (tie.spec wait-fits-requires returns wait-holds-requires returns-2)
+can-wait-on-spec = tie.close (tie.spec (λ c κs. search needs) returns wait-holds-requires returns-2)

@@ -1,7 +1,6 @@
-use Prim.Native.Nat.{ℕ, zero, suc, _+_, _-_, _*_, _/_, _%_, _≤_, _<_}
-use mathlib.Core.Path.{_≡_, refl, sym, ap, _∙_}
+use Prim.Native.Nat.{_+_, _-_}
+use mathlib.Core.Path.{_≡_, refl, _∙_}
 use native.Mathlib.Omega.{arith}
-use lib.ListN.{length, getD, set, length-set}
 use borrow.Author.Needs.{needs}
 use Rattle.laws.proofs.Tests.{held, failed}
 use Rattle.laws.proofs.BelowLaws.{and-yes, and-no}
@@ -10,40 +9,15 @@ use Rattle.program_graph.proofs.WordLaws.{times-length}
 use Rattle.program_graph.proofs.LeaveLaws.{few-places, lent-known, waiting-lent}
 use Rattle.program_graph.proofs.inner.waits.is_waiting_on.Statement.{statement}
 use Rattle.program_graph.proofs.inner.waits.is_waiting_on.Tie as tie
-use Rattle.program_graph.proofs.inner.waits.is_waiting_on.Reads as reads
-use Rattle.program_graph.proofs.inner.waits.is_waiting_on.Lts as lts
-use Rattle.program_graph.proofs.inner.waits.can_wait_on.Reads as can-wait-on-reads
-use Rattle.run_steps.proofs.inner.waiting.waiting.Reads as waiting-reads
-
-can-wait-on-requires : tie.Need-can-wait-on-requires
-can-wait-on-requires c κs = search needs
 
 returns : tie.Need-returns
 returns c = and-no _ (failed (c .before .can-wait-on .ensures) (c .if1 .taken))
-
-shared-slice-read-n : tie.Need-shared-slice-read-n
-shared-slice-read-n c = search needs
-
-sub-waiting : tie.Need-sub-waiting
-sub-waiting c = search needs
-
-part-waiting-start : tie.Need-part-waiting-start
-part-waiting-start c = search needs
-
-part-waiting-end : tie.Need-part-waiting-end
-part-waiting-end c = search needs
 
 add-waiting : tie.Need-add-waiting
 add-waiting c =
     let s = c .before .before .before .before .before .before in
     let few = few-places (s .args .t .now) (s .args .r .now) (s .pre .0) (s .pre .1) _ refl in
     omega (arith, few)
-
-sub-waiting-2 : tie.Need-sub-waiting-2
-sub-waiting-2 c = search needs
-
-part-waiting-start-2 : tie.Need-part-waiting-start-2
-part-waiting-start-2 c = search needs
 
 part-waiting-end-2 : tie.Need-part-waiting-end-2
 part-waiting-end-2 c =
@@ -56,7 +30,8 @@ waiting-requires c κs =
     let s = c .before .before .before .before .before .before .before in
     let n = runProcesses (s .args .r .now) in
     let e : 3 + n - 3 ≡ n = omega arith in
-    (s .pre .0, times-length (s .args .r .now) (s .pre .1 .words), rw e (lent-known (s .args .t .now) (s .args .r .now) (s .pre .0) (s .pre .1) n refl))
+    (s .pre .0, times-length (s .args .r .now) (s .pre .1 .words),
+    rw e (lent-known (s .args .t .now) (s .args .r .now) (s .pre .0) (s .pre .1) n refl))
 
 returns-2 : tie.Need-returns-2
 returns-2 c =
@@ -65,21 +40,22 @@ returns-2 c =
     let n = runProcesses (s .args .r .now) in
     let e : 3 + n - 3 ≡ n = omega arith in
     let given = rw e at (c .waiting .ensures) in
-    and-yes (held (l .before .can-wait-on .ensures) (l .if1 .left)) (given ∙ waiting-lent (s .args .t .now) (s .args .r .now) (s .pre .0) (s .pre .1) n refl _)
+    and-yes (held (l .before .can-wait-on .ensures) (l .if1 .left))
+    (given ∙ waiting-lent (s .args .t .now) (s .args .r .now) (s .pre .0) (s .pre .1) n refl _)
 
 pub is-waiting-on-spec : {M : Type 1} → statement M
 is-waiting-on-spec =
     tie.close
     (tie.spec
-    can-wait-on-requires
+    (λ c κs. search needs)
     returns
-    shared-slice-read-n
-    sub-waiting
-    part-waiting-start
-    part-waiting-end
+    (λ c. search needs)
+    (λ c. search needs)
+    (λ c. search needs)
+    (λ c. search needs)
     add-waiting
-    sub-waiting-2
-    part-waiting-start-2
+    (λ c. search needs)
+    (λ c. search needs)
     part-waiting-end-2
     waiting-requires
     returns-2)

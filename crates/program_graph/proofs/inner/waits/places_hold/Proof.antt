@@ -1,30 +1,17 @@
-use Prim.Native.Nat.{ℕ, zero, suc, _+_, _-_, _*_, _/_, _%_, _≤_, _<_}
-use mathlib.Core.Path.{_≡_, refl, sym, ap, _∙_}
+use Prim.Native.Nat.{_+_, _-_}
+use mathlib.Core.Path.{_≡_, refl, _∙_}
 use native.Mathlib.Omega.{arith}
-use lib.ListN.{length, getD, set, length-set}
 use borrow.Author.Needs.{needs}
 use Rattle.graph_tables.specs.RunWords.{runProcesses}
 use Rattle.program_graph.proofs.LeaveLaws.{few-places, lent-known, holds-lent}
 use Rattle.program_graph.proofs.inner.waits.places_hold.Statement.{statement}
 use Rattle.program_graph.proofs.inner.waits.places_hold.Tie as tie
-use Rattle.program_graph.proofs.inner.waits.places_hold.Reads as reads
-use Rattle.program_graph.proofs.inner.waits.places_hold.Lts as lts
-use Rattle.run_steps.proofs.inner.waits.places_hold.Reads as places-hold-reads
-
-shared-slice-read-n : tie.Need-shared-slice-read-n
-shared-slice-read-n c = search needs
 
 add-places-hold : tie.Need-add-places-hold
 add-places-hold c =
     let s = c .before .before .before .before in
     let few = few-places (s .args .t .now) (s .args .r .now) (s .pre .0) (s .pre .1) _ refl in
     omega (arith, few)
-
-sub-places-hold : tie.Need-sub-places-hold
-sub-places-hold c = search needs
-
-part-places-hold-start : tie.Need-part-places-hold-start
-part-places-hold-start c = search needs
 
 part-places-hold-end : tie.Need-part-places-hold-end
 part-places-hold-end c =
@@ -51,10 +38,10 @@ pub places-hold-spec : {M : Type 1} → statement M
 places-hold-spec =
     tie.close
     (tie.spec
-    shared-slice-read-n
+    (λ c. search needs)
     add-places-hold
-    sub-places-hold
-    part-places-hold-start
+    (λ c. search needs)
+    (λ c. search needs)
     part-places-hold-end
     places-hold-requires
     returns)

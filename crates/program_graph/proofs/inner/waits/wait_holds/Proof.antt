@@ -1,25 +1,11 @@
-use Prim.Native.Nat.{ℕ, zero, suc, _+_, _-_, _*_, _/_, _%_, _≤_, _<_}
-use mathlib.Core.Path.{_≡_, refl, sym, ap, _∙_}
-use native.Mathlib.Omega.{arith}
-use lib.ListN.{length, getD, set, length-set}
+use Prim.Native.Nat.{_-_}
+use mathlib.Core.Path.{ap, _∙_}
+use lib.ListN.{length}
 use borrow.Author.Needs.{needs}
 use Rattle.run_steps.proofs.StepLaws.{shifted-length}
 use Rattle.program_graph.proofs.WordLaws.{times-length}
 use Rattle.program_graph.proofs.inner.waits.wait_holds.Statement.{statement}
 use Rattle.program_graph.proofs.inner.waits.wait_holds.Tie as tie
-use Rattle.program_graph.proofs.inner.waits.wait_holds.Reads as reads
-use Rattle.program_graph.proofs.inner.waits.wait_holds.Lts as lts
-use Rattle.program_graph.proofs.inner.waits.places_hold.Reads as places-hold-reads
-use Rattle.program_graph.proofs.inner.waits.times_later.Reads as times-later-reads
-
-slice-aggregate-times-later : tie.Need-slice-aggregate-times-later
-slice-aggregate-times-later c = search needs
-
-times-later-requires : tie.Need-times-later-requires
-times-later-requires c κs = search needs
-
-slice-aggregate-places-hold : tie.Need-slice-aggregate-places-hold
-slice-aggregate-places-hold c = search needs
 
 places-hold-requires : tie.Need-places-hold-requires
 places-hold-requires c κs =
@@ -37,8 +23,8 @@ pub wait-holds-spec : {M : Type 1} → statement M
 wait-holds-spec =
     tie.close
     (tie.spec
-    slice-aggregate-times-later
-    times-later-requires
-    slice-aggregate-places-hold
+    (λ c. search needs)
+    (λ c κs. search needs)
+    (λ c. search needs)
     places-hold-requires
     returns)

@@ -1,7 +1,6 @@
-use Prim.Native.Nat.{ℕ, zero, suc, _+_, _-_, _*_, _/_, _%_, _≤_, _<_}
-use mathlib.Core.Path.{_≡_, refl, sym, ap, _∙_}
-use native.Mathlib.Omega.{arith}
-use lib.ListN.{length, getD, set, length-set}
+use Prim.Native.Nat.{_-_}
+use mathlib.Core.Path.{refl, ap, _∙_}
+use lib.ListN.{length}
 use borrow.Author.Needs.{needs}
 use Rattle.laws.proofs.Tests.{held, failed}
 use Rattle.graph_tables.specs.Refusals.{refusal}
@@ -13,28 +12,14 @@ use Rattle.program_graph.proofs.WordLaws.{times-length}
 use Rattle.program_graph.proofs.LeaveLaws.{rung-stopped, rung-passed, leaves-same, leaves-later}
 use Rattle.program_graph.proofs.inner.waits.wait_on.Statement.{statement}
 use Rattle.program_graph.proofs.inner.waits.wait_on.Tie as tie
-use Rattle.program_graph.proofs.inner.waits.wait_on.Reads as reads
-use Rattle.program_graph.proofs.inner.waits.wait_on.Lts as lts
-use Rattle.program_graph.proofs.inner.steps.set_times.Reads as set-times-reads
-use Rattle.program_graph.proofs.inner.waits.places_hold.Reads as places-hold-reads
-use Rattle.program_graph.proofs.inner.waits.times_later.Reads as times-later-reads
-use Rattle.program_graph.proofs.inner.waits.wait_fits.Reads as wait-fits-reads
-
-wait-fits-requires : tie.Need-wait-fits-requires
-wait-fits-requires c κs = search needs
-
-same-length : tie.Need-same-length
-same-length c = search needs
 
 returns : tie.Need-returns
 unfolding waitedOf
 returns c =
     let k = c .before in
     let s = k .before .before .before .before in
-    rung-stopped (DidWait (s .args .t .now) (s .args .r .now) (Done.Refused (refusal 26)) (s .args .r .now)) _ _ (failed (k .wait-fits .ensures) (c .if1 .taken)) (refl, leaves-same (s .args .t .now) (s .args .r .now) (s .pre .1))
-
-slice-aggregate-times-later : tie.Need-slice-aggregate-times-later
-slice-aggregate-times-later c = search needs
+    rung-stopped (DidWait (s .args .t .now) (s .args .r .now) (Done.Refused (refusal 26)) (s .args .r .now)) _ _
+    (failed (k .wait-fits .ensures) (c .if1 .taken)) (refl, leaves-same (s .args .t .now) (s .args .r .now) (s .pre .1))
 
 times-later-requires : tie.Need-times-later-requires
 times-later-requires c κs =
@@ -42,17 +27,11 @@ times-later-requires c κs =
     let s = l .before .before .before .before .before in
     (s .pre .0, s .pre .1, refl, held (l .before .wait-fits .ensures) (l .if1 .left))
 
-slice-aggregate-places-hold : tie.Need-slice-aggregate-places-hold
-slice-aggregate-places-hold c = search needs
-
 places-hold-requires : tie.Need-places-hold-requires
 places-hold-requires c κs =
     let a = c .before .before .before in
     let s = a .before .before .before .before .before .before .before .before in
     (s .pre .0, s .pre .1, ap length (a .times-later .ensures) ∙ shifted-length _ _ _ ∙ times-length (s .args .r .now) (s .pre .1 .words))
-
-same-length-2 : tie.Need-same-length-2
-same-length-2 c = search needs
 
 returns-2 : tie.Need-returns-2
 unfolding waitedOf
@@ -64,19 +43,14 @@ returns-2 c =
     let s = k .before .before .before .before in
     let holds = rw (a .times-later .ensures) at (h .places-hold .ensures) in
     let did = DidWait (s .args .t .now) (s .args .r .now) (Done.Refused (refusal 9)) (s .args .r .now) in
-    rung-passed did _ _ (held (k .wait-fits .ensures) (l .if1 .left)) (rung-stopped did _ _ (failed holds (c .if2 .taken)) (refl, leaves-same (s .args .t .now) (s .args .r .now) (s .pre .1)))
-
-slice-aggregate-set-times : tie.Need-slice-aggregate-set-times
-slice-aggregate-set-times c = search needs
+    rung-passed did _ _ (held (k .wait-fits .ensures) (l .if1 .left))
+    (rung-stopped did _ _ (failed holds (c .if2 .taken)) (refl, leaves-same (s .args .t .now) (s .args .r .now) (s .pre .1)))
 
 set-times-requires : tie.Need-set-times-requires
 set-times-requires c κs =
     let a = c .before .before .before .before .before .before .before in
     let s = a .before .before .before .before .before .before .before .before in
     (s .pre .1 .words, ap length (a .times-later .ensures) ∙ shifted-length _ _ _ ∙ times-length (s .args .r .now) (s .pre .1 .words))
-
-same-length-3 : tie.Need-same-length-3
-same-length-3 c = search needs
 
 returns-3 : tie.Need-returns-3
 unfolding waitedOf
@@ -98,16 +72,16 @@ pub wait-on-spec : {M : Type 1} → statement M
 wait-on-spec =
     tie.close
     (tie.spec
-    wait-fits-requires
-    same-length
+    (λ c κs. search needs)
+    (λ c. search needs)
     returns
-    slice-aggregate-times-later
+    (λ c. search needs)
     times-later-requires
-    slice-aggregate-places-hold
+    (λ c. search needs)
     places-hold-requires
-    same-length-2
+    (λ c. search needs)
     returns-2
-    slice-aggregate-set-times
+    (λ c. search needs)
     set-times-requires
-    same-length-3
+    (λ c. search needs)
     returns-3)

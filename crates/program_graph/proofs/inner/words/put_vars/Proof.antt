@@ -1,15 +1,12 @@
-use Prim.Native.Nat.{ℕ, zero, suc, _+_, _-_, _*_, _/_, _%_, _≤_, _<_}
-use mathlib.Core.Path.{_≡_, refl, sym, ap, _∙_}
+use Prim.Native.Nat.{_-_, _≤_}
+use mathlib.Core.Path.{_≡_, refl}
 use native.Mathlib.Omega.{arith}
-use lib.ListN.{length, getD, set, length-set}
+use lib.ListN.{length}
 use Rattle.program_graph.specs.Inner.{VarsStored}
 use Rattle.program_graph.proofs.StoredLaws.{stored-none, stored-more}
 use borrow.Author.Needs.{needs}
 use Rattle.program_graph.proofs.inner.words.put_vars.Statement.{statement}
 use Rattle.program_graph.proofs.inner.words.put_vars.Tie as tie
-use Rattle.program_graph.proofs.inner.words.put_vars.Reads as reads
-use Rattle.program_graph.proofs.inner.words.put_vars.Lts as lts
-use Rattle.grammar.proofs.inner.slots.put.Reads as put-reads
 
 abbrev Inv-loop : tie.InvT-loop
 Inv-loop ws₀ n vars v₀ ws v = (v ≤ n) × VarsStored ws vars v
@@ -20,30 +17,16 @@ abbrev μ-loop : tie.MeasureT-loop
 loop-holds : tie.Need-loop-holds Inv-loop μ-loop
 loop-holds c = (search needs, stored-none _ _ (c .before .pre .0))
 
-mul-slot : tie.Need-mul-slot Inv-loop μ-loop
-mul-slot c = search needs
-
-array-copy-out-slot : tie.Need-array-copy-out-slot Inv-loop μ-loop
-array-copy-out-slot c = search needs
-
 put-requires : tie.Need-put-requires Inv-loop μ-loop
 put-requires c κs = let l = c .before .before .before in omega (arith, l .before .before .pre .1, l .loop .inv .1 .used .words)
-
-add-v : tie.Need-add-v Inv-loop μ-loop
-add-v c = search needs
-
-loop-less : tie.Need-loop-less Inv-loop μ-loop
-loop-less c = search needs
 
 loop-again : tie.Need-loop-again Inv-loop μ-loop
 loop-again c =
     let p = c .before .before in
     let l = p .before .before .before .before in
     let s = l .before .before in
-    (omega arith, stored-more (l .loop .ws) (s .args .t2) (l .loop .v) _ (omega (arith, s .pre .1)) (p .put .ensures .1) refl (l .loop .inv .1) (p .put .ensures .0))
-
-same-length : tie.Need-same-length Inv-loop μ-loop
-same-length c = search needs
+    (omega arith, stored-more (l .loop .ws) (s .args .t2) (l .loop .v) _ (omega (arith, s .pre .1)) (p .put .ensures .1) refl
+    (l .loop .inv .1) (p .put .ensures .0))
 
 returns : tie.Need-returns Inv-loop μ-loop
 returns c =
@@ -60,11 +43,11 @@ put-vars-spec =
     Inv-loop
     μ-loop
     loop-holds
-    mul-slot
-    array-copy-out-slot
+    (λ c. search needs)
+    (λ c. search needs)
     put-requires
-    add-v
-    loop-less
+    (λ c. search needs)
+    (λ c. search needs)
     loop-again
-    same-length
+    (λ c. search needs)
     returns)

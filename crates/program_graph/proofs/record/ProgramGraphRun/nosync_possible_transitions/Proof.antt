@@ -27,7 +27,8 @@ unfolding nosyncOf
 returns-3 c =
     let f = c .before in
     let e = f .before .before in
-    passed (Listed.Refused (refusal 32)) (held (e .before .fits-table .ensures) (e .if1 .left)) (passed (Listed.Refused (refusal 16)) (eq-eqb _ _ (f .if2 .left)) (c .entry .ensures))
+    passed (Listed.Refused (refusal 32)) (held (e .before .fits-table .ensures) (e .if1 .left))
+    (passed (Listed.Refused (refusal 16)) (eq-eqb _ _ (f .if2 .left)) (c .entry .ensures))
 
 pub nosync-possible-transitions-spec : {M : Type 1} → statement M
 nosync-possible-transitions-spec = tie.close (tie.spec (λ c κs. search needs) returns returns-2 entry-requires returns-3)

@@ -44,4 +44,6 @@ returns-3 c =
     (passed (Time.Refused (refusal 2)) (lt-ltb _ _ (rw (n .clock-count .ensures) at (f .if2 .left))) refl)
 
 pub time-spec : {M : Type 1} → statement M
-time-spec = tie.close (tie.spec (λ c κs. search needs) returns (λ c. search needs) clock-count-requires returns-2 (λ c. search needs) array-read-t13 returns-3)
+time-spec =
+    tie.close (tie.spec (λ c κs. search needs) returns (λ c. search needs) clock-count-requires returns-2
+    (λ c. search needs) array-read-t13 returns-3)

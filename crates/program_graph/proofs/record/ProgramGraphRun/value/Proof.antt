@@ -44,4 +44,6 @@ returns-3 c =
     (passed (Value.Refused (refusal 4)) (lt-ltb _ _ (rw (n .variable-count .ensures) at (f .if2 .left))) refl)
 
 pub value-spec : {M : Type 1} → statement M
-value-spec = tie.close (tie.spec (λ c κs. search needs) returns (λ c. search needs) variable-count-requires returns-2 (λ c. search needs) array-copy-out-slot returns-3)
+value-spec =
+    tie.close (tie.spec (λ c κs. search needs) returns (λ c. search needs) variable-count-requires returns-2
+    (λ c. search needs) array-copy-out-slot returns-3)
