@@ -1,0 +1,4 @@
+pub mod SystemLaws
+pub mod ActionLaws
+pub mod MessageLaws
+pub mod Theorems

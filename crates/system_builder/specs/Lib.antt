@@ -1,0 +1,4 @@
+pub mod Systems
+pub mod Graphs
+pub mod Messages
+pub mod Chains
