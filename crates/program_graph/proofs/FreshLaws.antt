@@ -15,7 +15,7 @@ use Rattle.laws.proofs.BelowLaws.{and-both, all-from}
 use Rattle.grammar.specs.Bits.{bitsOf, fromBits}
 use Rattle.grammar.specs.Slots.{valOf}
 use Rattle.grammar.proofs.BitLaws.{from-low, from-high}
-use Rattle.graph_tables.specs.Sizes.{word32}
+use Rattle.graph_tables.specs.Sizes.{variableRoom, clockRoom, word32}
 use Rattle.graph_tables.specs.Words.{variableCount, clockCount, processCount, kindAt, valueAt, placeAt}
 use Rattle.graph_tables.specs.RunWords.{RunWords, runPlacesStart, runValuesStart, runClocksStart, placesIn, varsIn, clocksIn}
 use Rattle.graph_tables.specs.Sound.{Sound}
@@ -62,10 +62,10 @@ part-at : (w : List ℕ) (a n i : ℕ) → i < n → getD (take n (drop a w)) i 
 part-at w a n i l = getD-take n (drop a w) i 0 l ∙ getD-drop a w i 0
 
 -- ---- a kind and a value of a table are the words of a value
-bits-back : (b : ℕ) → b < word32 → bitsOf (fromBits (b % 4294967296)) ≡ b
+bits-back : (b : ℕ) → b < word32 → bitsOf (fromBits (b % word32)) ≡ b
 bits-back b h = rw low (by (decLt b 2147483648))
   where
-    low : b % 4294967296 ≡ b
+    low : b % word32 ≡ b
     low = omega arith
 
     by : Dec (b < 2147483648) → bitsOf (fromBits b) ≡ b
@@ -162,7 +162,7 @@ module _ (t : List ℕ) (sound : Sound t) (r : List ℕ) (words : RunWords r) wh
   fresh-kind v l =
       let few = sound .counts .variables in
       let w = placed-words in
-      part-at (freshWords t r) runValuesStart 32 (2 * v) (omega arith)
+      part-at (freshWords t r) runValuesStart (2 * variableRoom) (2 * v) (omega arith)
       ∙ put-other valued clockCell zeroTime (clockCount t) (kindCell v) (λ k h e. omega arith)
       ∙ put-other kinded payloadCell (valueAt t) (variableCount t) (kindCell v) (λ k h e. omega arith)
       ∙ put-at placed kindCell (kindAt t) (λ i j e. omega arith) (variableCount t) v l (omega arith)
@@ -173,7 +173,7 @@ module _ (t : List ℕ) (sound : Sound t) (r : List ℕ) (words : RunWords r) wh
       let few = sound .counts .variables in
       let w = kinded-words in
       let e : runValuesStart + (2 * v + 1) ≡ payloadCell v = omega arith in
-      part-at (freshWords t r) runValuesStart 32 (2 * v + 1) (omega arith)
+      part-at (freshWords t r) runValuesStart (2 * variableRoom) (2 * v + 1) (omega arith)
       ∙ ap (λ (k : ℕ). getD (freshWords t r) k 0) e
       ∙ put-other valued clockCell zeroTime (clockCount t) (payloadCell v) (λ k h e. omega arith)
       ∙ put-at kinded payloadCell (valueAt t) (λ i j e. omega arith) (variableCount t) v l (omega arith)
@@ -184,7 +184,7 @@ module _ (t : List ℕ) (sound : Sound t) (r : List ℕ) (words : RunWords r) wh
   fresh-time c l =
       let few = sound .counts .clocks in
       let w = valued-words in
-      part-at (freshWords t r) runClocksStart 8 c (omega arith)
+      part-at (freshWords t r) runClocksStart clockRoom c (omega arith)
       ∙ put-at valued clockCell zeroTime (λ i j e. omega arith) (clockCount t) c l (omega arith)
 
   var-fits : (v : ℕ) → v < variableCount t → varWordsFit t (varsIn (freshWords t r)) v ≡ true

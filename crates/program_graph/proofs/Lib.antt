@@ -5,6 +5,7 @@ pub mod LeaveLaws
 pub mod OverLaws
 pub mod SmallLaws
 pub mod ValueLaws
+pub mod SpareLaws
 pub mod AnswerLaws
 pub mod SaidLaws
 pub mod RunLaws

@@ -7,7 +7,7 @@ use lib.ListN.{length, getD, set, take, drop, length-drop, take-append-drop}
 use lib.Seq.{getD-take, length-take-le, take-add, take-append-add, take-take, take-all, drop-drop, drop-at, set-append-left}
 use Rattle.grammar.specs.Slots.{slotsOf}
 use Rattle.graph_tables.specs.Sizes.{processRoom, variableRoom, clockRoom}
-use Rattle.graph_tables.specs.RunWords.{RunWords, runPlacesStart, runValuesStart, runClocksStart, placesIn, varsIn, clocksIn}
+use Rattle.graph_tables.specs.RunWords.{RunWords, runWords, runPlacesStart, runValuesStart, runClocksStart, placesIn, varsIn, clocksIn}
 use Rattle.run_steps.specs.Steps.{placedBelow}
 use Rattle.run_steps.proofs.StepLaws.{placed-length}
 use Rattle.program_graph.specs.Inner.{runAt, Parts, Small, withVars, VarsStored, Stored}
@@ -86,7 +86,7 @@ module _ (r posts : List ℕ) (h : RunWords r) (n : ℕ) (few : n ≤ processRoo
 
   pub placed-anew : Parts (anew r runPlacesStart n moved) (take runPlacesStart r) (placedBelow (placesIn r) posts n) (varsIn r) (clocksIn r)
   placed-anew =
-      let room : length (drop runPlacesStart r) ≡ 44 = rw (length-drop runPlacesStart r, h) (omega arith) in
+      let room : length (drop runPlacesStart r) ≡ runWords - runPlacesStart = rw (length-drop runPlacesStart r, h) (omega arith) in
       let size : length moved ≡ n = placed-length (take n (drop runPlacesStart r)) posts n ∙ used-length r h n few in
       let within : runPlacesStart + n ≤ length r = rw h (omega arith) in
       let whole : n + (processRoom - n) ≡ processRoom = omega arith in

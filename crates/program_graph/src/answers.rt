@@ -5,6 +5,7 @@ use graph_tables::answers::Done;
 use graph_tables::answers::Entry;
 use graph_tables::handed::Message;
 use graph_tables::refusals::Refusal;
+use graph_tables::sizes;
 
 // A fresh run.
 pub struct Fresh {
@@ -40,7 +41,7 @@ pub struct Received {
 // Where the processes are, if they are told.
 pub struct States {
     pub answer: Done,
-    pub places: [u32; 4],
+    pub places: [u32; sizes::PROCESSES],
     pub count: usize,
 }
 

@@ -20,6 +20,7 @@ use graph_tables::ids::Clock;
 use graph_tables::ids::Var;
 use graph_tables::inner;
 use graph_tables::refusals::Refusal;
+use graph_tables::sizes;
 use run_steps::inner::messages;
 ghost use mathlib.Core.Path.{_≡_};
 ghost use Rattle.program_graph.specs.Running.{fitsTable, transitionOf, waitOf, canWaitOf, isWaitingOf, newRunOf, statesOf, valueIn};
@@ -132,7 +133,7 @@ impl ProgramGraphRun {
         if !fits_table(t, self) {
             return States {
                 answer: Done::Refused(Refusal::BadState),
-                places: [0; 4],
+                places: [0; sizes::PROCESSES],
                 count: 0,
             };
         }

@@ -2,6 +2,7 @@
 use crate::record::ProgramGraphRun;
 use grammar::values::Slot;
 use graph_tables::inner;
+use graph_tables::sizes;
 use graph_tables::runs;
 use queues::inner::fits;
 use run_steps::inner::waits;
@@ -10,7 +11,7 @@ ghost use mathlib.Core.Bool.{true};
 ghost use Prim.Native.Nat.{_*_, _≤_, _<_};
 ghost use lib.ListN.{length};
 ghost use Rattle.laws.specs.Below.{allBelow};
-ghost use Rattle.graph_tables.specs.Sizes.{variableRoom};
+ghost use Rattle.graph_tables.specs.Sizes.{processRoom, variableRoom};
 ghost use Rattle.graph_tables.specs.Words.{variableCount, clockCount, processCount};
 ghost use Rattle.graph_tables.specs.RunWords.{RunWords, placesIn, varsIn, clocksIn};
 ghost use Rattle.graph_tables.specs.Sound.{Sound};
@@ -19,8 +20,8 @@ ghost use Rattle.program_graph.specs.Running.{placeKnown, varFits, count
 ghost use Rattle.program_graph.specs.Inner.{runAt};
 ghost use Rattle.program_graph.specs.Fits.{varWordsFit, runWordsFit};
 
-fn var_fits(t: &[u64], vars: [Slot; 16], v: usize) -> bool
-    requires { ⌜ Sound (now t) × (v < 16) ⌝ }
+fn var_fits(t: &[u64], vars: [Slot; sizes::VARIABLES], v: usize) -> bool
+    requires { ⌜ Sound (now t) × (v < variableRoom) ⌝ }
     ensures { λ r. ⌜ r ≡ varFits (now (t .entry)) vars v ⌝ }
 {
     let slot = vars[v];
@@ -28,8 +29,8 @@ fn var_fits(t: &[u64], vars: [Slot; 16], v: usize) -> bool
     value.kind().word() == inner::kind_at(t, v)
 }
 
-fn vars_fit(t: &[u64], vars: [Slot; 16], n: usize) -> bool
-    requires { ⌜ Sound (now t) × (n ≤ 16) ⌝ }
+fn vars_fit(t: &[u64], vars: [Slot; sizes::VARIABLES], n: usize) -> bool
+    requires { ⌜ Sound (now t) × (n ≤ variableRoom) ⌝ }
     ensures { λ r. ⌜ r ≡ allBelow n (varFits (now (t .entry)) vars) ⌝ }
 {
     for v in 0..n {
@@ -40,8 +41,8 @@ fn vars_fit(t: &[u64], vars: [Slot; 16], n: usize) -> bool
     true
 }
 
-fn places_known(t: &[u64], places: [u32; 4], n: usize) -> bool
-    requires { ⌜ Sound (now t) × (n ≤ 4) ⌝ }
+fn places_known(t: &[u64], places: [u32; sizes::PROCESSES], n: usize) -> bool
+    requires { ⌜ Sound (now t) × (n ≤ processRoom) ⌝ }
     ensures { λ r. ⌜ r ≡ allBelow n (placeKnown (now (t .entry)) places) ⌝ }
 {
     let locations = inner::location_count(t);

@@ -4,17 +4,18 @@ use grammar::bits;
 use grammar::values::Slot;
 use grammar::values::Val;
 use graph_tables::inner;
+use graph_tables::sizes;
 ghost use mathlib.Core.Path.{_≡_};
 ghost use Prim.Native.Nat.{_<_};
 ghost use Rattle.graph_tables.specs.Words.{variableCount, processCount};
 ghost use Rattle.graph_tables.specs.Sound.{Sound};
 ghost use Rattle.program_graph.specs.Running.{startPlaces, startValue, startVars, freshRun, noRun};
 
-fn start_places(t: &[u64], n: usize) -> [u32; 4]
+fn start_places(t: &[u64], n: usize) -> [u32; sizes::PROCESSES]
     requires { ⌜ Sound (now t) × (n ≡ processCount (now t)) ⌝ }
     ensures { λ r. ⌜ r ≡ startPlaces (now (t .entry)) n ⌝ }
 {
-    let mut places = [0; 4];
+    let mut places = [0; sizes::PROCESSES];
     for p in 0..n {
         places[p] = inner::place_at(t, p) as u32;
     }
@@ -32,14 +33,14 @@ fn start_value(t: &[u64], v: usize) -> Val
     Val::Integer(bits::from_bits(value as u32))
 }
 
-fn start_vars(t: &[u64], n: usize) -> [Slot; 16]
+fn start_vars(t: &[u64], n: usize) -> [Slot; sizes::VARIABLES]
     requires { ⌜ Sound (now t) × (n ≡ variableCount (now t)) ⌝ }
     ensures { λ r. ⌜ r ≡ startVars (now (t .entry)) n ⌝ }
 {
     let blank = Slot {
         value: Val::Boolean(false),
     };
-    let mut vars = [blank; 16];
+    let mut vars = [blank; sizes::VARIABLES];
     for v in 0..n {
         let value = start_value(t, v);
         vars[v] = Slot { value };
@@ -58,7 +59,7 @@ pub fn fresh(t: &[u64]) -> ProgramGraphRun
     ProgramGraphRun {
         places,
         vars,
-        times: [0; 8],
+        times: [0; sizes::CLOCKS],
         processes,
         variables,
         clocks: inner::clock_count(t),
@@ -72,9 +73,9 @@ pub fn no_run() -> ProgramGraphRun
         value: Val::Boolean(false),
     };
     ProgramGraphRun {
-        places: [0; 4],
-        vars: [blank; 16],
-        times: [0; 8],
+        places: [0; sizes::PROCESSES],
+        vars: [blank; sizes::VARIABLES],
+        times: [0; sizes::CLOCKS],
         processes: 0,
         variables: 0,
         clocks: 0,

@@ -1,6 +1,7 @@
 use Prim.Native.Nat.{_-_}
 use mathlib.Core.Path.{_≡_}
 use lib.ListN.{length}
+use Rattle.graph_tables.specs.Sizes.{processRoom}
 use borrow.Author.Needs.{needs}
 use Rattle.program_graph.proofs.WordLaws.{places-anew}
 use Rattle.program_graph.proofs.inner.words.put_places.Statement.{statement}
@@ -10,7 +11,7 @@ returns : tie.Need-returns
 returns c =
     let w = c .before .before in
     let s = w .before .before .before .before in
-    let size : length (s .args .t2) ≡ 4 = search needs in
+    let size : length (s .args .t2) ≡ processRoom = search needs in
     (rw (w .widen .ensures .0) (places-anew (s .args .r .now) (s .pre) (s .args .t2) size), w .widen .ensures .1)
 
 pub put-places-spec : {M : Type 1} → statement M

@@ -4,6 +4,7 @@ use native.Mathlib.Omega.{arith}
 use lib.ListN.{length}
 use Rattle.program_graph.specs.Inner.{VarsStored}
 use Rattle.program_graph.proofs.StoredLaws.{stored-none, stored-more}
+use Rattle.graph_tables.specs.Sizes.{variableRoom}
 use borrow.Author.Needs.{needs}
 use Rattle.program_graph.proofs.inner.words.put_vars.Statement.{statement}
 use Rattle.program_graph.proofs.inner.words.put_vars.Tie as tie
@@ -33,7 +34,7 @@ returns c =
     let l = c .before in
     let s = l .before .before in
     let e : l .loop .v ≡ s .args .n = omega arith in
-    let size : length (s .args .t2) ≡ 16 = search needs in
+    let size : length (s .args .t2) ≡ variableRoom = search needs in
     (rw (← e) (l .loop .inv .1), size)
 
 pub put-vars-spec : {M : Type 1} → statement M
