@@ -1,10 +1,10 @@
 // Lines that make a send or a receive.
 use crate::answers;
 use crate::lists;
+use graph_builder;
 use graph_tables::answers::Placed;
 use graph_tables::handed::Vars;
 use graph_tables::ids::Var;
-use graph_builder;
 use text::items;
 use text::items::Expression;
 use text::lists::Numbers;

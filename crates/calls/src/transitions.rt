@@ -2,9 +2,9 @@
 use crate::answers;
 use crate::lists;
 use crate::lists::Guard;
+use graph_builder;
 use graph_tables::ids::Action;
 use graph_tables::ids::Location;
-use graph_builder;
 use text::items;
 use text::numbers;
 use text::numbers::Small;
@@ -74,7 +74,15 @@ pub fn transition(line: &[u8], at: usize, t: &mut [u64], out: &mut [u8]) -> usiz
         return text::answers::bad(out);
     }
     let limits = read.limits;
-    let d = graph_builder::add_timed_transition(t, from, Action(action), to, guarded, guard, limits);
+    let d = graph_builder::add_timed_transition(
+        t,
+        from,
+        Action(action),
+        to,
+        guarded,
+        guard,
+        limits,
+    );
     answers::done(out, d)
 }
 

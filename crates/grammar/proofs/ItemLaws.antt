@@ -52,13 +52,25 @@ pub no-draw : (w : ℕ) → (w ≡ 13 → ⊥) → drawsIn (itemOf w) ≡ 0
 no-draw =
     word-any (λ (w : ℕ) (r : Read). (w ≡ 13 → ⊥) → drawsIn r ≡ 0) (
       (λ n. refl),
-      ((λ n. refl),
-      ((λ n. refl),
-      ((λ n. refl),
-      ((λ n. refl),
-      ((λ n. refl),
-      ((λ n. refl),
-      ((λ n. refl), ((λ n. refl), ((λ n. refl), ((λ n. refl), ((λ n. refl), ((λ n. refl), ((λ n. absurd (n refl)), tt))))))))))))),
+      (
+        (λ n. refl),
+        (
+          (λ n. refl),
+          (
+            (λ n. refl),
+            (
+              (λ n. refl),
+              (
+                (λ n. refl),
+                (
+                  (λ n. refl),
+                  ((λ n. refl), ((λ n. refl), ((λ n. refl), ((λ n. refl), ((λ n. refl), ((λ n. refl), ((λ n. absurd (n refl)), tt))))))),
+                ),
+              ),
+            ),
+          ),
+        ),
+      ),
     )
     (λ w v n. refl) (λ w k n. refl) (λ w n. refl)
 

@@ -49,8 +49,10 @@ no-integers a b =
                     (λ n. absurd (n .0 .0 .0 .0 .0 .1 refl)),
                     (
                       (λ n. absurd (n .0 .0 .0 .0 .1 refl)),
-                      ((λ n. absurd (n .0 .0 .0 .1 refl)),
-                      ((λ n. absurd (n .0 .0 .1 refl)), ((λ n. absurd (n .0 .1 refl)), ((λ n. absurd (n .1 refl)), ((λ n. refl), tt))))),
+                      (
+                        (λ n. absurd (n .0 .0 .0 .1 refl)),
+                        ((λ n. absurd (n .0 .0 .1 refl)), ((λ n. absurd (n .0 .1 refl)), ((λ n. absurd (n .1 refl)), ((λ n. refl), tt)))),
+                      ),
                     ),
                   ),
                 ),
@@ -78,9 +80,13 @@ no-booleans a b =
             (λ n. absurd (n .0 .1 refl)),
             (
               (λ n. refl),
-              ((λ n. refl),
-              ((λ n. refl),
-              ((λ n. refl), ((λ n. refl), ((λ n. refl), ((λ n. absurd (n .1 refl)), ((λ n. refl), ((λ n. refl), ((λ n. refl), tt))))))))),
+              (
+                (λ n. refl),
+                (
+                  (λ n. refl),
+                  ((λ n. refl), ((λ n. refl), ((λ n. refl), ((λ n. absurd (n .1 refl)), ((λ n. refl), ((λ n. refl), ((λ n. refl), tt))))))),
+                ),
+              ),
             ),
           ),
         ),

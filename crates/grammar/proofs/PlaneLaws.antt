@@ -191,26 +191,48 @@ none-left n bits w r e z = rw z (left-none r e (push-fails n bits))
 -- ---- the operation of a word
 pub arithmetic : (w : ℕ) → 5 ≤ w → w < 10 → kindStep [] (itemOf w) ≡ join (takes2 Integer Integer)
 arithmetic w h l =
-    low-any 10 (lit≤ tt) (λ (w : ℕ) (r : Read). 5 ≤ w → kindStep [] r ≡ join (takes2 Integer Integer))
-    ((λ h. absurd (omega arith)),
-    ((λ h. absurd (omega arith)),
-    ((λ h. absurd (omega arith)),
-    ((λ h. absurd (omega arith)),
-    ((λ h. absurd (omega arith)), ((λ h. refl), ((λ h. refl), ((λ h. refl), ((λ h. refl), ((λ h. refl), tt))))))))))
+    low-any 10 (lit≤ tt) (λ (w : ℕ) (r : Read). 5 ≤ w → kindStep [] r ≡ join (takes2 Integer Integer)) (
+      (λ h. absurd (omega arith)),
+      (
+        (λ h. absurd (omega arith)),
+        (
+          (λ h. absurd (omega arith)),
+          (
+            (λ h. absurd (omega arith)),
+            ((λ h. absurd (omega arith)), ((λ h. refl), ((λ h. refl), ((λ h. refl), ((λ h. refl), ((λ h. refl), tt)))))),
+          ),
+        ),
+      ),
+    )
     w l h
 
 pub order : (w : ℕ) → 11 ≤ w → w < 13 → kindStep [] (itemOf w) ≡ join (takes2 Integer Boolean)
 order w h l =
-    low-any 13 (lit≤ tt) (λ (w : ℕ) (r : Read). 11 ≤ w → kindStep [] r ≡ join (takes2 Integer Boolean))
-    ((λ h. absurd (omega arith)),
-    ((λ h. absurd (omega arith)),
-    ((λ h. absurd (omega arith)),
-    ((λ h. absurd (omega arith)),
-    ((λ h. absurd (omega arith)),
-    ((λ h. absurd (omega arith)),
-    ((λ h. absurd (omega arith)),
-    ((λ h. absurd (omega arith)),
-    ((λ h. absurd (omega arith)), ((λ h. absurd (omega arith)), ((λ h. absurd (omega arith)), ((λ h. refl), ((λ h. refl), tt)))))))))))))
+    low-any 13 (lit≤ tt) (λ (w : ℕ) (r : Read). 11 ≤ w → kindStep [] r ≡ join (takes2 Integer Boolean)) (
+      (λ h. absurd (omega arith)),
+      (
+        (λ h. absurd (omega arith)),
+        (
+          (λ h. absurd (omega arith)),
+          (
+            (λ h. absurd (omega arith)),
+            (
+              (λ h. absurd (omega arith)),
+              (
+                (λ h. absurd (omega arith)),
+                (
+                  (λ h. absurd (omega arith)),
+                  (
+                    (λ h. absurd (omega arith)),
+                    ((λ h. absurd (omega arith)), ((λ h. absurd (omega arith)), ((λ h. absurd (omega arith)), ((λ h. refl), ((λ h. refl), tt))))),
+                  ),
+                ),
+              ),
+            ),
+          ),
+        ),
+      ),
+    )
     w l h
 
 pub logic : (w : ℕ) → w < 5 → (w ≡ 4 → ⊥) → (w ≡ 1 → ⊥) → (w ≡ 0 → ⊥) → kindStep [] (itemOf w) ≡ join (takes2 Boolean Boolean)

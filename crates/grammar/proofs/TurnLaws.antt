@@ -36,14 +36,25 @@ module _ (w : ℕ) where
 
   pub some : operatesOf w ≡ true → 1 ≤ takesOf (itemOf w)
   some e =
-      low-any 13 (lit≤ tt) (λ (w : ℕ) (r : Read). operatesOf w ≡ true → 1 ≤ takesOf r)
-      ((λ e. let z : _≡_ {A = ℕ} 0 1 = cc in absurd (omega arith)),
-      ((λ e. lit≤ tt),
-      ((λ e. lit≤ tt),
-      ((λ e. lit≤ tt),
-      ((λ e. lit≤ tt),
-      ((λ e. lit≤ tt),
-      ((λ e. lit≤ tt), ((λ e. lit≤ tt), ((λ e. lit≤ tt), ((λ e. lit≤ tt), ((λ e. lit≤ tt), ((λ e. lit≤ tt), ((λ e. lit≤ tt), tt)))))))))))))
+      low-any 13 (lit≤ tt) (λ (w : ℕ) (r : Read). operatesOf w ≡ true → 1 ≤ takesOf r) (
+        (λ e. let z : _≡_ {A = ℕ} 0 1 = cc in absurd (omega arith)),
+        (
+          (λ e. lit≤ tt),
+          (
+            (λ e. lit≤ tt),
+            (
+              (λ e. lit≤ tt),
+              (
+                (λ e. lit≤ tt),
+                (
+                  (λ e. lit≤ tt),
+                  ((λ e. lit≤ tt), ((λ e. lit≤ tt), ((λ e. lit≤ tt), ((λ e. lit≤ tt), ((λ e. lit≤ tt), ((λ e. lit≤ tt), ((λ e. lit≤ tt), tt))))))),
+                ),
+              ),
+            ),
+          ),
+        ),
+      )
       w (small e) e
 
   large : operatesOf w ≡ false → (w ≡ 0 → ⊥) → 13 ≤ w

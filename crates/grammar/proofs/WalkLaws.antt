@@ -109,7 +109,7 @@ module _ {items kinds : List ℕ} (short : length items ≤ 64) {waiting draws a
     steps-on r more e one d l =
         let a = goes-on (kindStep kinds (itemOf w)) (p .stack) r e one in
         let s : length (a .kinds) ≡ length (p .stack) - takesOf (itemOf w) + 1 =
-          a .sized ∙ ap (λ (n : ℕ). length (p .stack) - n + 1) (sym (kind-size kinds (itemOf w))) in
+        a .sized ∙ ap (λ (n : ℕ). length (p .stack) - n + 1) (sym (kind-size kinds (itemOf w))) in
         let q = deepest-least (drop (at + 1) items) (length (p .stack) - takesOf (itemOf w) + 1) in
         record {
           stack = a .kinds;
@@ -188,7 +188,7 @@ module _ {items kinds : List ℕ} (short : length items ≤ 64) {waiting draws a
       omega (arith, all-drawn l, no-draws items z, known-none items kinds z)
   last l (k ∷ []) e q s =
       let d : deepest items 0 ≤ 16 =
-        omega (arith, p .few, p .reached, p .same-depth, deepest-done items at (length (p .stack)) l) in
+      omega (arith, p .few, p .reached, p .same-depth, deepest-done items at (length (p .stack)) l) in
       let v : draws + waiting ≡ 4 * drawsOf items + kindWord k + 1 = omega (arith, all-drawn l) in
       v
       ∙ ap (λ (t : Typed). knownOf t (drawsOf items)) (judged-known k (deepest items 0) d
@@ -314,7 +314,7 @@ module _ (words : List ℕ) (from n : ℕ) (kinds : List ℕ) (room : from + n �
 
       -- an operation, whose answer says what it leaves
       module _ (l : getD words at 0 < 13) (r : ℕ)
-        (left : (ks : List Kind) → waiting ≡ digitsOf ks → r ≡ leftOf (kindStep [] (itemOf (getD words at 0))) ks) where
+          (left : (ks : List Kind) → waiting ≡ digitsOf ks → r ≡ leftOf (kindStep [] (itemOf (getD words at 0))) ks) where
         leaves : r ≡ leftOf (kindStep kinds (itemOf (getD (take n (drop from words)) (at - from) 0))) (t .walk .stack)
         leaves =
             left (t .walk .stack) (t .walk .held)

@@ -3,6 +3,7 @@ use Prim.Native.Nat.{ℕ, _%_}
 use mathlib.Core.Bool.{Bool, true, false, cond}
 use mathlib.Core.List.{List, [], _∷_}
 use lib.Dec.{eqb}
+use Rattle.laws.specs.Below.{_and_}
 use mir.Syntax.{w32}
 use mir.Val.{SFits}
 use Rattle.grammar.specs.Values.{kindOf, kindWord}
@@ -25,6 +26,10 @@ truthWord false = 0
 abbrev pub payloadIn : Val → ℕ
 payloadIn (Boolean b) = truthWord b
 payloadIn (Integer n) = bitsOf n
+
+-- a kind and a payload are those of the value that they stand for
+unfoldable pub isValue : ℕ → ℕ → Bool
+isValue kind payload = eqb (kindIn (valOf kind payload)) kind and eqb (payloadIn (valOf kind payload)) payload
 
 -- words as values, two each, and back
 unfoldable pub slotsOf : List ℕ → List Slot

@@ -186,11 +186,9 @@ fn coded(most: usize, kind: u64, draws: u64) -> u64
 // One pass: the operands that wait, the most that did, and the draws. Only operands can make more wait than before.
 fn code_of_run(items: &[u64], kinds: &[u64]) -> u64
     requires { ⌜ length (now items) ≤ 64 ⌝ }
-    ensures {
-        λ r. ⌜ r
+    ensures { λ r. ⌜ r
         ≡ codeOf (judged (runOf (kindSteps (now (kinds .entry)) (now (items .entry))) []) (deepest (now (items .entry)) 0))
-        (drawsOf (now (items .entry))) ⌝
-    }
+        (drawsOf (now (items .entry))) ⌝ }
 {
     let mut depth: usize = 0;
     let mut integers: u64 = 0;

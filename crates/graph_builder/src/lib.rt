@@ -112,20 +112,16 @@ pub fn new_action(t: &mut [u64]) -> Placed
 
 // A location without invariants.
 pub fn new_location(t: &mut [u64]) -> Placed
-    ensures {
-        λ r. ⌜ (r ≡ newTimedLocationOf (now (t .entry)) noLimits .answer)
-        × (now (t .exit) ≡ newTimedLocationOf (now (t .entry)) noLimits .table) ⌝
-    }
+    ensures { λ r. ⌜ (r ≡ newTimedLocationOf (now (t .entry)) noLimits .answer)
+        × (now (t .exit) ≡ newTimedLocationOf (now (t .entry)) noLimits .table) ⌝ }
 {
     new_timed_location(t, Limits::none())
 }
 
 // A process that starts at a location. One location may hold several.
 pub fn new_process(t: &mut [u64], location: Location) -> Done
-    ensures {
-        λ r. ⌜ (r ≡ newProcessOf (now (t .entry)) (location .0) .answer)
-        × (now (t .exit) ≡ newProcessOf (now (t .entry)) (location .0) .table) ⌝
-    }
+    ensures { λ r. ⌜ (r ≡ newProcessOf (now (t .entry)) (location .0) .answer)
+        × (now (t .exit) ≡ newProcessOf (now (t .entry)) (location .0) .table) ⌝ }
 {
     let l = location.0;
     let check = checks::process_check(t, l);
@@ -151,10 +147,8 @@ pub fn build(t: &[u64]) -> Done
 
 // A clock among the resets of an action, in the order of their numbers.
 pub fn add_reset(t: &mut [u64], action: Action, clock: Clock) -> Done
-    ensures {
-        λ r. ⌜ (r ≡ addResetOf (now (t .entry)) (action .0) (clock .0) .answer)
-        × (now (t .exit) ≡ addResetOf (now (t .entry)) (action .0) (clock .0) .table) ⌝
-    }
+    ensures { λ r. ⌜ (r ≡ addResetOf (now (t .entry)) (action .0) (clock .0) .answer)
+        × (now (t .exit) ≡ addResetOf (now (t .entry)) (action .0) (clock .0) .table) ⌝ }
 {
     let a = action.0;
     let c = clock.0;
@@ -168,10 +162,8 @@ pub fn add_reset(t: &mut [u64], action: Action, clock: Clock) -> Done
 
 // An effect of an action, behind the others.
 pub fn add_effect(t: &mut [u64], action: Action, var: Var, effect: &[u64]) -> Done
-    ensures {
-        λ r. ⌜ (r ≡ addEffectOf (now (t .entry)) (action .0) (var .0) (now (effect .entry)) .answer)
-        × (now (t .exit) ≡ addEffectOf (now (t .entry)) (action .0) (var .0) (now (effect .entry)) .table) ⌝
-    }
+    ensures { λ r. ⌜ (r ≡ addEffectOf (now (t .entry)) (action .0) (var .0) (now (effect .entry)) .answer)
+        × (now (t .exit) ≡ addEffectOf (now (t .entry)) (action .0) (var .0) (now (effect .entry)) .table) ⌝ }
 {
     let a = action.0;
     let v = var.0;
@@ -192,11 +184,9 @@ pub fn new_send<'a>(
     y: &'a [u64],
     z: &'a [u64],
 ) -> Placed
-    ensures {
-        λ r. ⌜ (r ≡ newSendOf (now (t .entry)) (chosen (now (w .entry)) (now (x .entry)) (now (y .entry)) (now (z .entry))) count .answer)
+    ensures { λ r. ⌜ (r ≡ newSendOf (now (t .entry)) (chosen (now (w .entry)) (now (x .entry)) (now (y .entry)) (now (z .entry))) count .answer)
         × (now (t .exit)
-        ≡ newSendOf (now (t .entry)) (chosen (now (w .entry)) (now (x .entry)) (now (y .entry)) (now (z .entry))) count .table) ⌝
-    }
+        ≡ newSendOf (now (t .entry)) (chosen (now (w .entry)) (now (x .entry)) (now (y .entry)) (now (z .entry))) count .table) ⌝ }
 {
     let check = checks::send_check(t, w, x, y, z, count);
     if let Done::Refused(r) = check {
@@ -222,10 +212,8 @@ pub fn new_receive(t: &mut [u64], vars: Vars) -> Placed
 
 // A location with these invariants.
 pub fn new_timed_location(t: &mut [u64], invariants: Limits) -> Placed
-    ensures {
-        λ r. ⌜ (r ≡ newTimedLocationOf (now (t .entry)) invariants .answer)
-        × (now (t .exit) ≡ newTimedLocationOf (now (t .entry)) invariants .table) ⌝
-    }
+    ensures { λ r. ⌜ (r ≡ newTimedLocationOf (now (t .entry)) invariants .answer)
+        × (now (t .exit) ≡ newTimedLocationOf (now (t .entry)) invariants .table) ⌝ }
 {
     let check = checks::location_check(t, invariants);
     if let Done::Refused(r) = check {
@@ -238,9 +226,7 @@ pub fn new_timed_location(t: &mut [u64], invariants: Limits) -> Placed
 
 // A location with these invariants, and a process that starts there.
 pub fn new_initial_timed_location(t: &mut [u64], invariants: Limits) -> Placed
-    ensures {
-        λ r. ⌜ (r ≡ newInitialOf (now (t .entry)) invariants .answer) × (now (t .exit) ≡ newInitialOf (now (t .entry)) invariants .table) ⌝
-    }
+    ensures { λ r. ⌜ (r ≡ newInitialOf (now (t .entry)) invariants .answer) × (now (t .exit) ≡ newInitialOf (now (t .entry)) invariants .table) ⌝ }
 {
     let check = checks::initial_check(t, invariants);
     if let Done::Refused(r) = check {
@@ -253,9 +239,7 @@ pub fn new_initial_timed_location(t: &mut [u64], invariants: Limits) -> Placed
 }
 
 pub fn new_initial_location(t: &mut [u64]) -> Placed
-    ensures {
-        λ r. ⌜ (r ≡ newInitialOf (now (t .entry)) noLimits .answer) × (now (t .exit) ≡ newInitialOf (now (t .entry)) noLimits .table) ⌝
-    }
+    ensures { λ r. ⌜ (r ≡ newInitialOf (now (t .entry)) noLimits .answer) × (now (t .exit) ≡ newInitialOf (now (t .entry)) noLimits .table) ⌝ }
 {
     new_initial_timed_location(t, Limits::none())
 }
@@ -271,10 +255,8 @@ pub fn add_timed_transition(
     guard: &[u64],
     limits: Limits,
 ) -> Done
-    ensures {
-        λ r. ⌜ (r ≡ addTransitionOf (now (t .entry)) (pre .0) (action .0) (post .0) guarded (now (guard .entry)) limits .answer)
-        × (now (t .exit) ≡ addTransitionOf (now (t .entry)) (pre .0) (action .0) (post .0) guarded (now (guard .entry)) limits .table) ⌝
-    }
+    ensures { λ r. ⌜ (r ≡ addTransitionOf (now (t .entry)) (pre .0) (action .0) (post .0) guarded (now (guard .entry)) limits .answer)
+        × (now (t .exit) ≡ addTransitionOf (now (t .entry)) (pre .0) (action .0) (post .0) guarded (now (guard .entry)) limits .table) ⌝ }
 {
     let l = pre.0;
     let a = action.0;
@@ -300,10 +282,8 @@ pub fn add_transition(
     guarded: bool,
     guard: &[u64],
 ) -> Done
-    ensures {
-        λ r. ⌜ (r ≡ addTransitionOf (now (t .entry)) (pre .0) (action .0) (post .0) guarded (now (guard .entry)) noLimits .answer)
-        × (now (t .exit) ≡ addTransitionOf (now (t .entry)) (pre .0) (action .0) (post .0) guarded (now (guard .entry)) noLimits .table) ⌝
-    }
+    ensures { λ r. ⌜ (r ≡ addTransitionOf (now (t .entry)) (pre .0) (action .0) (post .0) guarded (now (guard .entry)) noLimits .answer)
+        × (now (t .exit) ≡ addTransitionOf (now (t .entry)) (pre .0) (action .0) (post .0) guarded (now (guard .entry)) noLimits .table) ⌝ }
 {
     add_timed_transition(t, pre, action, post, guarded, guard, Limits::none())
 }
@@ -317,10 +297,8 @@ pub fn add_autonomous_timed_transition(
     guard: &[u64],
     limits: Limits,
 ) -> Done
-    ensures {
-        λ r. ⌜ (r ≡ addTransitionOf (now (t .entry)) (pre .0) epsilon (post .0) guarded (now (guard .entry)) limits .answer)
-        × (now (t .exit) ≡ addTransitionOf (now (t .entry)) (pre .0) epsilon (post .0) guarded (now (guard .entry)) limits .table) ⌝
-    }
+    ensures { λ r. ⌜ (r ≡ addTransitionOf (now (t .entry)) (pre .0) epsilon (post .0) guarded (now (guard .entry)) limits .answer)
+        × (now (t .exit) ≡ addTransitionOf (now (t .entry)) (pre .0) epsilon (post .0) guarded (now (guard .entry)) limits .table) ⌝ }
 {
     add_timed_transition(t, pre, Action::EPSILON, post, guarded, guard, limits)
 }
@@ -332,10 +310,8 @@ pub fn add_autonomous_transition(
     guarded: bool,
     guard: &[u64],
 ) -> Done
-    ensures {
-        λ r. ⌜ (r ≡ addTransitionOf (now (t .entry)) (pre .0) epsilon (post .0) guarded (now (guard .entry)) noLimits .answer)
-        × (now (t .exit) ≡ addTransitionOf (now (t .entry)) (pre .0) epsilon (post .0) guarded (now (guard .entry)) noLimits .table) ⌝
-    }
+    ensures { λ r. ⌜ (r ≡ addTransitionOf (now (t .entry)) (pre .0) epsilon (post .0) guarded (now (guard .entry)) noLimits .answer)
+        × (now (t .exit) ≡ addTransitionOf (now (t .entry)) (pre .0) epsilon (post .0) guarded (now (guard .entry)) noLimits .table) ⌝ }
 {
     add_transition(t, pre, Action::EPSILON, post, guarded, guard)
 }

@@ -123,7 +123,7 @@ send-ready t m count e =
       expression = λ i l. (
         message-short (kindsOf t) m count (checks .0) i l,
         is-typed (typeOf (kindsOf t) (m i))
-        (unless-on _ _ _ (unless-on _ _ _ (each-at (expressionCheck (kindsOf t) m) count i (checks .0) l) .1) .0)
+            (unless-on _ _ _ (unless-on _ _ _ (each-at (expressionCheck (kindsOf t) m) count i (checks .0) l) .1) .0)
             (all-at (shallow (kindsOf t) m) count i (deep .0) l),
       );
       draws = leb-true _ _ (draws .0);

@@ -343,11 +343,9 @@ fn message_check<'a>(
     count: usize,
 ) -> Done
     requires { ⌜ Sound (now t) ⌝ }
-    ensures {
-        λ r. ⌜ r
+    ensures { λ r. ⌜ r
         ≡ eachBelow count (expressionCheck (kindsOf (now (t .entry))) (chosen (now (w .entry)) (now (x .entry)) (now (y .entry))
-        (now (z .entry)))) ⌝
-    }
+        (now (z .entry)))) ⌝ }
 {
     for i in 0..count {
         let check = expression_check(actions::choose(w, x, y, z, i), inner::kinds_of(t));
@@ -373,10 +371,8 @@ fn all_shallow<'a>(
     count: usize,
 ) -> bool
     requires { ⌜ Sound (now t) ⌝ }
-    ensures {
-        λ r. ⌜ r
-        ≡ allBelow count (shallow (kindsOf (now (t .entry))) (chosen (now (w .entry)) (now (x .entry)) (now (y .entry)) (now (z .entry)))) ⌝
-    }
+    ensures { λ r. ⌜ r
+        ≡ allBelow count (shallow (kindsOf (now (t .entry))) (chosen (now (w .entry)) (now (x .entry)) (now (y .entry)) (now (z .entry)))) ⌝ }
 {
     for i in 0..count {
         if !is_shallow(actions::choose(w, x, y, z, i), inner::kinds_of(t)) {
@@ -405,9 +401,7 @@ fn send_room<'a>(
     z: &'a [u64],
     count: usize,
 ) -> Done
-    requires {
-        ⌜ Sound (now t) × (count ≤ messageRoom) × ((i : ℕ) → i < count → length (chosen (now w) (now x) (now y) (now z) i) ≤ itemRoom) ⌝
-    }
+    requires { ⌜ Sound (now t) × (count ≤ messageRoom) × ((i : ℕ) → i < count → length (chosen (now w) (now x) (now y) (now z) i) ≤ itemRoom) ⌝ }
     ensures { λ r. ⌜ r ≡ sendRoom (now (t .entry)) (chosen (now (w .entry)) (now (x .entry)) (now (y .entry)) (now (z .entry))) count ⌝ }
 {
     if !all_shallow(t, w, x, y, z, count) {

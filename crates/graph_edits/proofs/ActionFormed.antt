@@ -64,7 +64,7 @@ module _ (x : List ℕ) (n kind count : ℕ) where
           ∙ getD-set-other x₂ (effectsCell n) (resetsCell n) count 0 (omega arith)
           ∙ getD-set-same x₁ (resetsCell n) 0 0 (simp length-set (omega arith)),
       getD-set-other x₃ actionsCell (effectsCell n) (n + 1) 0 (omega arith)
-      ∙ getD-set-same x₂ (effectsCell n) count 0 (simp length-set (omega arith)),
+          ∙ getD-set-same x₂ (effectsCell n) count 0 (simp length-set (omega arith)),
     )
 
     -- t has n actions, and x has t's words but perhaps for those of action n
@@ -79,9 +79,13 @@ module _ (x : List ℕ) (n kind count : ℕ) where
           few = omega (arith, put-actions);
           others = λ b l other. omega (arith, put-actions);
           row =
-              λ j l three out. put-other j
-              (three, λ q. out 2 (omega arith) (omega arith), λ q. out 1 (omega arith) (omega arith), λ q. out 0 (omega arith)
-              (omega arith)) ∙ row j l out;
+              λ j l three out. put-other j (
+                three,
+                λ q. out 2 (omega arith) (omega arith),
+                λ q. out 1 (omega arith) (omega arith),
+                λ q. out 0 (omega arith)
+                    (omega arith),
+              ) ∙ row j l out;
           items = λ b e l other k h. put-other (effectSlot b e + k) (omega arith) ∙ items b e l other k h;
         }
 

@@ -104,9 +104,13 @@ module _ (t : List ℕ) (a v : ℕ) (ws : List ℕ) (words : Words t) (low : a <
         few = omega arith;
         others = λ b l other. omega arith;
         row =
-            λ j l three out. row j
-            (l, λ q. out (lengthsFrom + n) (omega arith) (omega arith), λ q. out (varsFrom + n) (omega arith) (omega arith), λ q. out 2
-            (omega arith) (omega arith));
+            λ j l three out. row j (
+              l,
+              λ q. out (lengthsFrom + n) (omega arith) (omega arith),
+              λ q. out (varsFrom + n) (omega arith) (omega arith),
+              λ q. out 2
+                  (omega arith) (omega arith),
+            );
         items = λ b e l other. items b e (omega arith);
       }
 

@@ -130,9 +130,14 @@ module _ (t u : List ℕ) (a : ℕ) (known : a < actionRoom) (formed : Formed t)
   -- the other counts
   pub same : (variableCount u ≡ variableCount t) × (clockCount u ≡ clockCount t) × (locationCount u ≡ locationCount t) × (processCount u
       ≡ processCount t) × (transitionCount u ≡ transitionCount t)
-  same =
-      (front variablesCell (omega arith), front clocksCell (omega arith), front locationsCell (omega arith), front processesCell
-      (omega arith), front transitionsCell (omega arith))
+  same = (
+    front variablesCell (omega arith),
+    front clocksCell (omega arith),
+    front locationsCell (omega arith),
+    front processesCell
+        (omega arith),
+    front transitionsCell (omega arith),
+  )
 
   pub around-grown : Grown t u
   around-grown =
@@ -151,8 +156,11 @@ module _ (t u : List ℕ) (a : ℕ) (known : a < actionRoom) (formed : Formed t)
   stands = record {
     values = λ v l. front (valueCell v) (omega arith);
     locations =
-        λ i l. record { count = front (invariantsCell i) (omega arith); group = λ j h. back (groupStart (invariantGroup i) + j)
-        (omega arith) };
+        λ i l. record {
+          count = front (invariantsCell i) (omega arith);
+          group = λ j h. back (groupStart (invariantGroup i) + j)
+              (omega arith);
+        };
     places = λ p l. front (placeCell p) (omega arith);
   }
 

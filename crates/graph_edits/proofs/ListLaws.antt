@@ -105,7 +105,7 @@ module _ {A : Type 0} where
         le-ltb (number x) (number (f zero)) (below zero (omega arith)),
         before zero (omega arith),
         put-list number (λ (i : ℕ). f (suc i)) (λ (i : ℕ). h (suc i)) n p x (omega arith) (λ l. above (omega arith))
-        (λ i l. below (suc i) (omega arith))
+            (λ i l. below (suc i) (omega arith))
             (λ i l. before (suc i) (omega arith)) here (λ i l m. behind (suc i) (omega arith) (omega arith)),
       )
 
@@ -153,8 +153,12 @@ module _ (t : List ℕ) (g : ℕ) (l : Limits) (words : Words t) (known : g < gr
 
       before : (i : ℕ) → i < p → limitAt u g i ≡ limitAt v g i
       before i m =
-          rw (new .before (limitRow g i) (omega arith), new .before (lowerCell g i) (omega arith), new .before (upperCell g i)
-          (omega arith))
+          rw (
+            new .before (limitRow g i) (omega arith),
+            new .before (lowerCell g i) (omega arith),
+            new .before (upperCell g i)
+                (omega arith),
+          )
 
       here : limitAt u g p ≡ handedLimit l n
       here =
@@ -165,8 +169,14 @@ module _ (t : List ℕ) (g : ℕ) (l : Limits) (words : Words t) (known : g < gr
           let none : limitRow g (i + 1) ≡ limitRow g i + limitWidth = omega arith in
           let one : lowerCell g (i + 1) ≡ lowerCell g i + limitWidth = omega arith in
           let two : upperCell g (i + 1) ≡ upperCell g i + limitWidth = omega arith in
-          rw (one, two, none, new .moved (limitRow g i) (omega arith) (omega arith), new .moved (lowerCell g i) (omega arith) (omega arith),
-          new .moved (upperCell g i) (omega arith) (omega arith))
+          rw (
+            one,
+            two,
+            none,
+            new .moved (limitRow g i) (omega arith) (omega arith),
+            new .moved (lowerCell g i) (omega arith) (omega arith),
+            new .moved (upperCell g i) (omega arith) (omega arith),
+          )
 
 -- ---- actions
 module _ (t : List ℕ) (a clock : ℕ) (words : Words t) (low : a < actionRoom) (room : resetCount t a < resetRoom) where
@@ -196,7 +206,7 @@ module _ (t : List ℕ) (a v : ℕ) (ws : List ℕ) (words : Words t) (low : a <
             effect-row t a v ws words low room short (varCell a e) (omega arith),
             effect-row t a v ws words low room short (lengthCell a e) (omega arith),
             items-moved t (withEffect t a v ws) at at itemRoom (effectLength t a e) (few e l) (omega arith)
-            (omega (arith, effect-words t a v ws words low room short))
+                (omega (arith, effect-words t a v ws words low room short))
                 (effect-other t a v ws words low room short a e (omega arith)),
           )
 

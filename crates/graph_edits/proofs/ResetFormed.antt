@@ -159,8 +159,11 @@ module _ (t : List ℕ) (a clock : ℕ) (words : Words t) (low : a < actionRoom)
         let all : allBelow m (effectFormed t a) ≡ true = and-first _ _ (and-rest _ _ (and-rest _ _ was-plain)) in
         let same : (e : ℕ) → e < m → effectLength u a e ≡ effectLength t a e = λ e l. after _ (omega arith) in
         let items : (e : ℕ) → e < m → ItemsKept t u a e = λ e l j k. after _ (omega arith) in
-        rw (before (effectsCell a) (omega arith) (λ e. omega arith), draws-kept grown a (omega arith) m few same items
-        (short-effects t a m all))
+        rw (
+          before (effectsCell a) (omega arith) (λ e. omega arith),
+          draws-kept grown a (omega arith) m few same items
+              (short-effects t a m all),
+        )
         (and-kept (λ r. resets)
         (and-kept (λ r. r)
         (and-kept (effects-kept grown a (omega arith) m few same items (λ e l. after _ (omega arith))) (λ r. r))) was-plain)

@@ -92,8 +92,12 @@ module _ (t u : List ℕ) (formed : Formed t) (words : Words u) (agrees : Agrees
         actions = omega arith;
       } in
       let stands : Stands t u =
-      record { values = λ i m. agrees _ (λ s. s .values i m refl); locations = locations-agree; places = λ i m. agrees _
-      (λ s. s .places i m refl) } in
+      record {
+        values = λ i m. agrees _ (λ s. s .values i m refl);
+        locations = locations-agree;
+        places = λ i m. agrees _
+            (λ s. s .places i m refl);
+      } in
       grown-formed t u formed grown (omega arith) stands
       (λ i n m. absurd (omega arith))
       (λ i n m. absurd (omega arith))

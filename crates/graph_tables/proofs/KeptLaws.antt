@@ -315,8 +315,12 @@ module _ {t u : List ℕ} (grown : Grown t u) (a : ℕ) where
           let few : n ≤ messageRoom = leb-true _ _ (and-first _ _ (and-rest _ _ h)) in
           let same : (e : ℕ) → e < n → effectLength u a e ≡ effectLength t a e = λ e l. length-word e (omega arith) in
           let each : (e : ℕ) → e < n → ItemsKept t u a e = λ e l. items e (omega arith) in
-          rw (reset-word, count-word, draws-kept n (omega arith) same each
-          (short-expressions t a n (and-first _ _ (and-rest _ _ (and-rest _ _ h)))))
+          rw (
+            reset-word,
+            count-word,
+            draws-kept n (omega arith) same each
+                (short-expressions t a n (and-first _ _ (and-rest _ _ (and-rest _ _ h)))),
+          )
           (and-kept (λ r. r) (and-kept (λ r. r) (and-kept (expressions-kept n (omega arith) same each) (λ r. r))) h)
 
       receive-kept : receiveFormed t a ≡ true → receiveFormed u a ≡ true

@@ -136,10 +136,8 @@ fn location_formed(t: &[u64], l: usize) -> bool
 }
 
 fn process_formed(t: &[u64], p: usize) -> bool
-    requires {
-        ⌜ Words (now t) × (p < processRoom) × (locationCount (now t) ≤ locationRoom)
-        × (allBelow (locationCount (now t)) (locationFormed (now t)) ≡ true) ⌝
-    }
+    requires { ⌜ Words (now t) × (p < processRoom) × (locationCount (now t) ≤ locationRoom)
+        × (allBelow (locationCount (now t)) (locationFormed (now t)) ≡ true) ⌝ }
     ensures { λ r. ⌜ r ≡ processFormed (now (t .entry)) p ⌝ }
 {
     let l = inner::place_at(t, p);
@@ -423,10 +421,8 @@ fn all_locations_formed(t: &[u64], n: usize) -> bool
 }
 
 fn all_processes_formed(t: &[u64], n: usize) -> bool
-    requires {
-        ⌜ Words (now t) × (n ≤ processRoom) × (locationCount (now t) ≤ locationRoom)
-        × (allBelow (locationCount (now t)) (locationFormed (now t)) ≡ true) ⌝
-    }
+    requires { ⌜ Words (now t) × (n ≤ processRoom) × (locationCount (now t) ≤ locationRoom)
+        × (allBelow (locationCount (now t)) (locationFormed (now t)) ≡ true) ⌝ }
     ensures { λ r. ⌜ r ≡ allBelow n (processFormed (now (t .entry))) ⌝ }
 {
     for i in 0..n {

@@ -20,7 +20,7 @@ use Rattle.graph_tables.specs.Sound.{Sound}
 use Rattle.run_steps.specs.Steps.{clockFits}
 use Rattle.run_steps.specs.Inner.{VarWords}
 use Rattle.run_steps.proofs.StepLaws.{clock-fits, fits-at}
-use Rattle.queues.specs.Fits.{isValue}
+use Rattle.grammar.specs.Slots.{isValue}
 use Rattle.program_graph.specs.declared.record.ProgramGraphRun.{ProgramGraphRun}
 use Rattle.program_graph.specs.Running.{placeKnown, varFits, countsSame, runFormed}
 use Rattle.program_graph.specs.Inner.{runAt, RunOf, Leaves}

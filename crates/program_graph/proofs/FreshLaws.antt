@@ -20,7 +20,7 @@ use Rattle.graph_tables.specs.Words.{variableCount, clockCount, processCount, k
 use Rattle.graph_tables.specs.RunWords.{RunWords, runPlacesStart, runValuesStart, runClocksStart, placesIn, varsIn, clocksIn}
 use Rattle.graph_tables.specs.Sound.{Sound}
 use Rattle.run_steps.proofs.StepLaws.{clock-fits}
-use Rattle.queues.specs.Fits.{isValue}
+use Rattle.grammar.specs.Slots.{isValue}
 use Rattle.program_graph.specs.Running.{countsSame}
 use Rattle.program_graph.specs.Fits.{varWordsFit, runWordsFit, RunKept}
 use Rattle.program_graph.specs.FreshWords.{placeCell, kindCell, payloadCell, clockCell, putBelow, zeroTime}

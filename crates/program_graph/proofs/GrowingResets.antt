@@ -94,6 +94,8 @@ module _ (t : List ℕ) (a c : ℕ) (formed : wellFormed t true ≡ true) where
       (λ r q. absurd (above-ok r (eqb-true _ _ q)))
       (λ e q.
       let r = reset-ready t a c e in
-      let l : a < actionCount t = r .action .0 in
-      (l, has-resets (withReset t a c) a c (not-epsilon l)
-      (subst (Has c) (sym (resets-list t a c (f .words) (omega (arith, l, f .counts .actions)) (r .room))) (put-has c (resetsOf t a)))))
+      let l : a < actionCount t = r .action .0 in (
+        l,
+        has-resets (withReset t a c) a c (not-epsilon l)
+            (subst (Has c) (sym (resets-list t a c (f .words) (omega (arith, l, f .counts .actions)) (r .room))) (put-has c (resetsOf t a))),
+      ))

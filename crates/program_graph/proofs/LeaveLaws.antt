@@ -75,8 +75,14 @@ pub leaves-parts :
     (t r after places vars times : List ℕ) (values : List Slot) → RunOf t r → Parts after (take runPlacesStart r) places vars times →
     VarsLeft (variableCount t) (varsIn r) vars values
     → Leaves t r
-    (record { places = places; vars = values; times = times; processes = runProcesses r; variables = runVariables r;
-    clocks = runClocks r }) after
+    (record {
+      places = places;
+      vars = values;
+      times = times;
+      processes = runProcesses r;
+      variables = runVariables r;
+      clocks = runClocks r;
+    }) after
 leaves-parts t r after places vars times values h p v =
     let count : (i : ℕ) → i < runPlacesStart → getD (take runPlacesStart r) i 0 ≡ getD r i 0 = λ i l. getD-take runPlacesStart r i 0 l in
     record {
@@ -151,12 +157,12 @@ module _ (t r : List ℕ) (sound : Sound t) (h : RunOf t r) (n : ℕ) (e : n ≡
 pub leaves-back : {t r after : List ℕ} → RunOf t r → Leaves t r (runAt r) after → after ≡ r
 leaves-back {t} {r} {after} h l =
     let left : VarsLeft (variableCount t) (varsIn r) (varsIn after) (slotsOf (varsIn r)) =
-        record {
-          words = l .used .words ∙ sym (h .used .words);
-          slots = ap (λ (x : ProgramGraphRun). x .vars) (l .reads);
-          canonical = λ w. l .used;
-          frame = l .spare;
-        }
+    record {
+      words = l .used .words ∙ sym (h .used .words);
+      slots = ap (λ (x : ProgramGraphRun). x .vars) (l .reads);
+      canonical = λ w. l .used;
+      frame = l .spare;
+    }
     in
     let places = ap (λ (x : ProgramGraphRun). x .places) (l .reads) in
     let times = ap (λ (x : ProgramGraphRun). x .times) (l .reads) in
@@ -207,8 +213,14 @@ module _ (t : List ℕ) (a word : ℕ) (r ws : List ℕ) (h : RunWords r) where
       record {
         answer = sym ok;
         parts =
-            record { words = q .words; counts = q .counts ∙ p .counts; places = q .places ∙ p .places; vars = refl; times = q .times
-            ∙ p .times };
+            record {
+              words = q .words;
+              counts = q .counts ∙ p .counts;
+              places = q .places ∙ p .places;
+              vars = refl;
+              times = q .times
+                  ∙ p .times;
+            };
         vars = rw (back, ok) (vars-same (variableCount t) (varsIn r));
       }
 
@@ -224,13 +236,13 @@ module _ (t : List ℕ) (a word : ℕ) (r : List ℕ) (h : RunOf t r) {fits : Bo
       → Leaves t r (movedTo (runAt r) posts (effectedOf t a (slotsOf (varsIn r)) word .vars) times) r₃
   effects-moved posts times r₂ r₃ each f p q =
       let parts : Parts r₃ (take runPlacesStart r) (placedBelow (placesIn r) posts (length posts)) (varsIn after) times =
-          record {
-            words = q .words;
-            counts = q .counts ∙ p .counts ∙ e .parts .counts;
-            places = q .places ∙ ap (λ (x : List ℕ). placedBelow x posts (length posts)) (p .places ∙ e .parts .places);
-            vars = q .vars ∙ p .vars;
-            times = q .times ∙ p .times;
-          }
+      record {
+        words = q .words;
+        counts = q .counts ∙ p .counts ∙ e .parts .counts;
+        places = q .places ∙ ap (λ (x : List ℕ). placedBelow x posts (length posts)) (p .places ∙ e .parts .places);
+        vars = q .vars ∙ p .vars;
+        times = q .times ∙ p .times;
+      }
       in
       leaves-moved t r r₃ posts (varsIn after) times _ h each parts (rw f at (e .vars))
 

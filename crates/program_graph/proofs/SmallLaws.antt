@@ -137,8 +137,11 @@ module _ (t : List ℕ) (run : ProgramGraphRun) (sound : Sound t) (h : SmallRun 
       rung Sends _ _ _ h (λ g.
       rung Sends _ _ _ h (λ k.
       rung Sends _ _ _ h (λ s.
-      record { places = small-placed (run .places) posts (h .places) (run .processes)
-      (ready-small t _ _ _ _ _ _ posts g); times = h .times })))))
+      record {
+        places = small-placed (run .places) posts (h .places) (run .processes)
+            (ready-small t _ _ _ _ _ _ posts g);
+        times = h .times;
+      })))))
 
   pub receive-small : (a : ℕ) (posts : List ℕ) (m : Message) → SmallRun (receivedOf t run a posts m .run)
   unfolding receivedOf heardOf
@@ -148,5 +151,8 @@ module _ (t : List ℕ) (run : ProgramGraphRun) (sound : Sound t) (h : SmallRun 
       rung Receives _ _ _ h (λ g.
       rung Receives _ _ _ h (λ k.
       rung Receives _ _ _ h (λ s.
-      record { places = small-placed (run .places) posts (h .places) (run .processes)
-      (ready-small t _ _ _ _ _ _ posts g); times = h .times })))))
+      record {
+        places = small-placed (run .places) posts (h .places) (run .processes)
+            (ready-small t _ _ _ _ _ _ posts g);
+        times = h .times;
+      })))))

@@ -114,8 +114,14 @@ count-at r counts e i l = sym (getD-take runPlacesStart r i 0 l) ∙ ap (λ (w :
 
 pub parts-run : {r counts places vars times : List ℕ} → Parts r counts places vars times
     → runAt r
-    ≡ record { places = places; vars = slotsOf vars; times = times; processes = getD counts 0 0; variables = getD counts 1 0;
-    clocks = getD counts 2 0 }
+    ≡ record {
+      places = places;
+      vars = slotsOf vars;
+      times = times;
+      processes = getD counts 0 0;
+      variables = getD counts 1 0;
+      clocks = getD counts 2 0;
+    }
 parts-run {r} {counts} p =
     let c = count-at r counts (p .counts) in
     cc (p .places, p .vars, p .times, c 0 (omega arith), c 1 (omega arith), c 2 (omega arith))
@@ -126,9 +132,9 @@ front : (w : List ℕ) → length w ≡ processRoom + (2 * variableRoom + clockR
     → w ≡ take processRoom w ++ (take (2 * variableRoom) (drop processRoom w) ++ take clockRoom (drop (processRoom + 2 * variableRoom) w))
 front w h =
     let behind : drop (2 * variableRoom) (drop processRoom w) ≡ take clockRoom (drop (processRoom + 2 * variableRoom) w) =
-        drop-drop (2 * variableRoom) processRoom w
-        ∙ sym (take-all clockRoom (drop (processRoom + 2 * variableRoom) w)
-        (rw (length-drop (processRoom + 2 * variableRoom) w, h) (omega arith)))
+    drop-drop (2 * variableRoom) processRoom w
+    ∙ sym (take-all clockRoom (drop (processRoom + 2 * variableRoom) w)
+    (rw (length-drop (processRoom + 2 * variableRoom) w, h) (omega arith)))
     in
     sym (take-append-drop processRoom w)
     ∙ ap (λ (x : List ℕ). take processRoom w ++ x) (sym (take-append-drop (2 * variableRoom) (drop processRoom w)))
@@ -162,13 +168,13 @@ stored-all run r r₁ r₂ r₃ ws h e p f q g v size =
     made .counts ∙ q .counts ∙ p .counts ∙ ap (take runPlacesStart) e ∙ counts-told r h (run .processes) (run .variables) (run .clocks) in
     let parts : Parts (anew r₃ runValuesStart (2 * variableRoom) ws) (run .processes ∷ run .variables ∷ run .clocks ∷ []) (run .places) ws
     (run .times) =
-        record {
-          words = made .words;
-          counts = counts;
-          places = made .places ∙ q .places ∙ p .places;
-          vars = made .vars;
-          times = made .times ∙ q .times;
-        }
+    record {
+      words = made .words;
+      counts = counts;
+      places = made .places ∙ q .places ∙ p .places;
+      vars = made .vars;
+      times = made .times ∙ q .times;
+    }
     in
     record {
       words = made .words;

@@ -9,7 +9,7 @@ use Rattle.graph_tables.specs.Sizes.{lastTime}
 use Rattle.graph_tables.specs.Words.{variableCount, clockCount, processCount, kindAt}
 use Rattle.graph_tables.specs.RunWords.{placesIn, varsIn, clocksIn}
 use Rattle.run_steps.specs.Steps.{clockFits}
-use Rattle.queues.specs.Fits.{isValue}
+use Rattle.grammar.specs.Slots.{isValue}
 use Rattle.program_graph.specs.Running.{placeKnown, countsSame}
 use Rattle.program_graph.specs.Inner.{runAt, RunOf}
 

@@ -11,13 +11,13 @@ use lib.Seq.{getD-append-add}
 use borrow.Author.Tests.{eqb-true, eq-eqb, ltb-true, lt-ltb, leb-true, le-leb}
 use Rattle.laws.proofs.BelowLaws.{and-first, and-rest, and-both, all-at, all-from}
 use Rattle.grammar.specs.Evaluation.{blank}
-use Rattle.grammar.specs.Slots.{kindIn, payloadIn}
+use Rattle.grammar.specs.Slots.{kindIn, payloadIn, isValue}
 use Rattle.grammar.specs.declared.values.Slot.{Slot}
 use Rattle.graph_tables.specs.declared.handed.Message.{Message}
 use Rattle.queues.specs.Layout.{slotRoom, QueueWords}
 use Rattle.queues.specs.Queues.{storedOf, kindWordAt, payloadWordAt, queueOf, Counted, QueueFormed}
 use Rattle.queues.specs.Queues.{dropped, emptied, slotsFor, valuesOf, pushedAll, firstOf, FitMessage}
-use Rattle.queues.specs.Fits.{wholeMessages, kindFor, isValue, slotFits, countsFit, queueFits, QueueKept, MessageKept}
+use Rattle.queues.specs.Fits.{wholeMessages, kindFor, slotFits, countsFit, queueFits, QueueKept, MessageKept}
 use Rattle.queues.proofs.QueueLaws.{list-at, queue-length, queue-at, drop-stored, drop-at, drop-formed, fresh-stored, fresh-formed}
 use Rattle.queues.proofs.MessageLaws.{slots-width, puts-stored, puts-formed, send-queue, first-at}
 

@@ -7,7 +7,7 @@ use lib.Dec.{eqb, leb, ltb}
 use lib.ListN.{length, getD}
 use Rattle.laws.specs.Below.{_and_, allBelow}
 use Rattle.grammar.specs.Evaluation.{blank}
-use Rattle.grammar.specs.Slots.{valOf, kindIn, payloadIn}
+use Rattle.grammar.specs.Slots.{kindIn, isValue}
 use Rattle.graph_tables.specs.Sizes.{word32}
 use Rattle.graph_tables.specs.declared.handed.Message.{Message}
 use Rattle.queues.specs.Layout.{readOf, writeOf}
@@ -22,10 +22,6 @@ wholeMessages w n = eqb (n % slotsFor w) 0
 -- the kind of stored value i: the messages stand one behind the other
 abbrev pub kindFor : List ℕ → ℕ → ℕ
 kindFor kinds i = getD kinds (i % slotsFor (length kinds)) 0
-
--- a kind and a payload are those of the value that they stand for
-unfoldable pub isValue : ℕ → ℕ → Bool
-isValue kind payload = eqb (kindIn (valOf kind payload)) kind and eqb (payloadIn (valOf kind payload)) payload
 
 -- stored value i is one, of its kind
 unfoldable pub slotFits : List ℕ → List ℕ → ℕ → Bool

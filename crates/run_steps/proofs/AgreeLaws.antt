@@ -145,8 +145,10 @@ module _ (t : List ℕ) (sound : Sound t) (vars others : List Slot) (same : Agre
   pub listing-agree : (clocks places : List ℕ) (n : ℕ) → listingOf t vars clocks places n ≡ listingOf t others clocks places n
   listing-agree clocks places n =
       let shared = shared-agree clocks places n in
-      cc (join-same (sharedEntries t vars clocks places n) (sharedEntries t others clocks places n) (actionCount t) (λ a l. shared a),
-      shared epsilon)
+      cc (
+        join-same (sharedEntries t vars clocks places n) (sharedEntries t others clocks places n) (actionCount t) (λ a l. shared a),
+        shared epsilon,
+      )
 
   -- a send says the same
   pub spoken-agree : (a word : ℕ) → a < actionCount t → actionKind t a ≡ sendKind → spokenOf t a vars word ≡ spokenOf t a others word
@@ -157,8 +159,11 @@ module _ (t : List ℕ) (sound : Sound t) (vars others : List Slot) (same : Agre
       below zero l = refl
       below (suc n) l =
           let expression = sound .action a known .send send .expression n (omega arith) in
-          rw (below n (omega arith), typed-agree vars others same (effectItems t a n) (expression .kind)
-          (spokenBelow t a others (unsaid word) n .word) (expression .typed))
+          rw (
+            below n (omega arith),
+            typed-agree vars others same (effectItems t a n) (expression .kind)
+                (spokenBelow t a others (unsaid word) n .word) (expression .typed),
+          )
 
   -- effects are alike
   module _ (size : length vars ≡ length others) (a word : ℕ) (known : a < actionCount t) (plain : actionKind t a ≡ plainKind) where

@@ -17,9 +17,11 @@ module _ {A : Type 0} (Before : A → A → Type 0) where
   ascending-append : (xs ys : List A) → Ascending Before xs → Ascending Before ys
       → ((x y : A) → List·Memᴰ x xs → List·Memᴰ y ys → Before x y) → Ascending Before (xs ++ ys)
   ascending-append [] ys a b h = b
-  ascending-append (x ∷ xs) ys a b h =
-      (λ y m. ⊎-elim (a .0 y) (h x y (List·Memᴰ·head refl)) (List·Memᴰ·append-cases xs m), ascending-append xs ys (a .1) b
-      (λ u v m. h u v (List·Memᴰ·tail m)))
+  ascending-append (x ∷ xs) ys a b h = (
+    λ y m. ⊎-elim (a .0 y) (h x y (List·Memᴰ·head refl)) (List·Memᴰ·append-cases xs m),
+    ascending-append xs ys (a .1) b
+        (λ u v m. h u v (List·Memᴰ·tail m)),
+  )
 
 pub in-map : {A B : Type 0} (image : A → B) {e : B} (rows : List A) → List·Memᴰ e (map image rows)
     → (r : A) × List·Memᴰ r rows × (e ≡ image r)

@@ -142,8 +142,14 @@ module _ (t : List ℕ) (vars : List Slot) (clocks places : List ℕ) (n : ℕ) 
   of-action-is-open a r (shared, (p, process, (k, known, (opens, same)))) =
       let leaving = leaves t (getD places p 0) a k .0 (and-first _ _ opens) in
       rw same
-      (record { process = process; known = known; pre = leaving .0; by = leaving .1; shared = shared-by t places n a .0 shared;
-      passes = and-rest _ _ opens })
+      (record {
+        process = process;
+        known = known;
+        pre = leaving .0;
+        by = leaving .1;
+        shared = shared-by t places n a .0 shared;
+        passes = and-rest _ _ opens;
+      })
 
   listed-is-open : (r : Row) → Listed r → Open t vars clocks places n r
   listed-is-open r = ⊎-elim (λ x. of-action-is-open (x .0) r (x .2)) (of-action-is-open epsilon r)
@@ -151,9 +157,10 @@ module _ (t : List ℕ) (vars : List Slot) (clocks places : List ℕ) (n : ℕ) 
   open-of-action : (r : Row) → Open t vars clocks places n r → OfAction (r .action) r
   unfolding opensBy
   open-of-action r h =
-      let leaving = leaves t (getD places (r .process) 0) (r .action) (r .transition) .1 (h .pre, h .by) in
-      (shared-by t places n (r .action) .1 (h .shared),
-      (r .process, h .process, (r .transition, h .known, (and-both leaving (h .passes), refl))))
+      let leaving = leaves t (getD places (r .process) 0) (r .action) (r .transition) .1 (h .pre, h .by) in (
+        shared-by t places n (r .action) .1 (h .shared),
+        (r .process, h .process, (r .transition, h .known, (and-both leaving (h .passes), refl))),
+      )
 
   open-is-listed : Sound t → (r : Row) → Open t vars clocks places n r → Listed r
   open-is-listed s r h =
@@ -207,7 +214,7 @@ module _ (t : List ℕ) (vars : List Slot) (clocks places : List ℕ) (n : ℕ) 
         inr (
           e,
           posts-ascend (keyOf t (r .transition)) (keyOf t (s .transition)) (p .pre ∙ ap (λ (x : ℕ). getD places x 0) e ∙ sym (q .pre))
-          (p .by ∙ a ∙ sym (q .by))
+              (p .by ∙ a ∙ sym (q .by))
               (keys-ascend t sound (r .transition) (s .transition) l (q .known)),
         ),
       )

@@ -18,7 +18,9 @@ impl Kinds {
     pub fn none() -> Kinds
         ensures { λ r. ⌜ r ≡ noKinds ⌝ }
     {
-        let blank = Kind { kind: Type::Boolean };
+        let blank = Kind {
+            kind: Type::Boolean,
+        };
         Kinds {
             kinds: [blank; sizes::MESSAGE],
             count: 0,

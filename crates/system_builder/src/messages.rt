@@ -31,7 +31,12 @@ pub fn new_send<'a>(
         return Placed::Refused(r);
     }
     let placed = graphs::send_on(t, g.0 as usize, count, w, x, y, z);
-    graphs::tell(t, g.0 as usize, placed, Communication::On(Message::Send, channel));
+    graphs::tell(
+        t,
+        g.0 as usize,
+        placed,
+        Communication::On(Message::Send, channel),
+    );
     placed
 }
 
@@ -44,7 +49,12 @@ pub fn new_receive(t: &mut [u64], g: PgId, channel: Channel, vars: Vars) -> Plac
         return Placed::Refused(r);
     }
     let placed = graphs::receive_on(t, g.0 as usize, vars);
-    graphs::tell(t, g.0 as usize, placed, Communication::On(Message::Receive, channel));
+    graphs::tell(
+        t,
+        g.0 as usize,
+        placed,
+        Communication::On(Message::Receive, channel),
+    );
     placed
 }
 

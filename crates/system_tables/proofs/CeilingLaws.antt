@@ -6,9 +6,11 @@ use native.Mathlib.Nat.{mul-comm, mul-add, mul-one, mul-le-mul-left, le-div-iff-
 use native.Mathlib.Omega.{arith}
 use borrow.Author.Tests.{eq-eqb, ne-eqb}
 use lib.Dec.{eqb}
-use Rattle.system_tables.specs.Sizes.{queueRoom, fullMessage}
+use Rattle.system_tables.specs.Sizes.{fullMessage}
+use Rattle.queues.specs.Layout.{slotRoom}
+use Rattle.queues.specs.Queues.{slotsFor}
 use Rattle.system_tables.specs.Words.{messageWord}
-use Rattle.system_tables.specs.Ceiling.{slotCount, roundedUp, ceiling}
+use Rattle.system_tables.specs.Ceiling.{roundedUp, ceiling}
 use Rattle.system_tables.specs.declared.ids.ChannelCapacity.{ChannelCapacity}
 use Rattle.system_tables.specs.declared.ids.ChannelCapacity.the-variants.{Bounded, Unbounded, Sink}
 use Rattle.system_tables.specs.declared.ids.Message.{Message}
@@ -30,36 +32,36 @@ one-more s n k some h =
     rw e at (mul-le-mul-left s up)
 
 -- a bounded queue of whole messages in which fewer slots than its bound are taken has room for one more below its ceiling
-pub one-more-fits : (width n k : ℕ) → slotCount width * k < n → slotCount width * k + slotCount width ≤ ceiling width (Bounded n)
+pub one-more-fits : (width n k : ℕ) → slotsFor width * k < n → slotsFor width * k + slotsFor width ≤ ceiling width (Bounded n)
 unfolding ceiling
-one-more-fits width n k h = by (slotCount width) h
+one-more-fits width n k h = by (slotsFor width) h
   where
     by : (s : ℕ) → s * k < n → s * k + s ≤ cond (eqb s 0) 0 (s * roundedUp n s)
     by zero l = omega arith
     by (suc s) l = rw (ne-eqb (suc s) 0 (λ e. omega arith)) (one-more (suc s) n k (omega arith) l)
 
 -- ---- the ceiling, case by case: of messages that take no slot, of a sink, without a bound, with one
-pub no-slots : (width : ℕ) (c : ChannelCapacity) → slotCount width ≡ 0 → ceiling width c ≡ 0
+pub no-slots : (width : ℕ) (c : ChannelCapacity) → slotsFor width ≡ 0 → ceiling width c ≡ 0
 unfolding ceiling
 no-slots width c e = rw (eq-eqb _ _ e)
 
 pub sink-ceiling : (width : ℕ) → ceiling width Sink ≡ 0
 unfolding ceiling
-sink-ceiling width = by (eqb (slotCount width) 0)
+sink-ceiling width = by (eqb (slotsFor width) 0)
   where
     by : (b : Bool) → _≡_ {A = ℕ} (cond b 0 0) 0
     by true = refl
     by false = refl
 
-module _ (width : ℕ) (some : 0 < slotCount width) where
-  taken : eqb (slotCount width) 0 ≡ false
-  taken = ne-eqb (slotCount width) 0 (λ (e : slotCount width ≡ 0). omega arith)
+module _ (width : ℕ) (some : 0 < slotsFor width) where
+  taken : eqb (slotsFor width) 0 ≡ false
+  taken = ne-eqb (slotsFor width) 0 (λ (e : slotsFor width ≡ 0). omega arith)
 
-  pub unbounded-ceiling : ceiling width Unbounded ≡ queueRoom
+  pub unbounded-ceiling : ceiling width Unbounded ≡ slotRoom
   unfolding ceiling
   unbounded-ceiling = rw taken
 
-  pub bounded-ceiling : (n : ℕ) → ceiling width (Bounded n) ≡ slotCount width * roundedUp n (slotCount width)
+  pub bounded-ceiling : (n : ℕ) → ceiling width (Bounded n) ≡ slotsFor width * roundedUp n (slotsFor width)
   unfolding ceiling
   bounded-ceiling n = rw taken
 

@@ -8,10 +8,6 @@ graphRoom = 8
 abbrev pub channelRoom : ℕ
 channelRoom = 8
 
--- ---- of a queue: values
-abbrev pub queueRoom : ℕ
-queueRoom = 64
-
 -- ---- sorts of capacity
 abbrev pub boundedSort : ℕ
 boundedSort = 0

@@ -8,7 +8,8 @@ use Rattle.graph_tables.specs.Sizes.{messageRoom, word32, noKind}
 use Rattle.graph_tables.specs.Words.{actionCount}
 use Rattle.graph_tables.specs.Sound.{Sound}
 use Rattle.graph_tables.specs.Messages.{isPlain, isSend, isReceive, messageCount, valueKind}
-use Rattle.system_tables.specs.Sizes.{graphRoom, channelRoom, queueRoom, boundedSort, sinkSort}
+use Rattle.queues.specs.Layout.{slotRoom}
+use Rattle.system_tables.specs.Sizes.{graphRoom, channelRoom, boundedSort, sinkSort}
 use Rattle.system_tables.specs.Sizes.{noCommunication, sendMessage, receiveMessage, emptyMessage, fullMessage}
 use Rattle.system_tables.specs.Words.{SystemWords, graphCount, channelCount, widthOf, channelKind, sortOf, boundOf, capacityOf}
 use Rattle.system_tables.specs.Words.{graphPart, communicationAt, messagePart, channelPart}
@@ -45,7 +46,7 @@ pub record ChannelSound (t : List ℕ) (q : ℕ) : Type 0 where
   -- a bound fits
   pub bound : BoundFits t q
   -- there is room for what is stored
-  pub room : ceiling (widthOf t q) (capacityOf t q) ≤ queueRoom
+  pub room : ceiling (widthOf t q) (capacityOf t q) ≤ slotRoom
 
 -- the message of action a, of the graph with the words G, is one of channel q
 pub record MessageSound (t : List ℕ) (q : ℕ) (G : List ℕ) (a : ℕ) : Type 0 where

@@ -3,8 +3,5 @@ pub const GRAPHS: usize = 8;
 
 pub const CHANNELS: usize = 8;
 
-// Values in a queue.
-pub const QUEUE: u64 = 64;
-
 // The words of a system's table.
 pub const WORDS: usize = 375434;

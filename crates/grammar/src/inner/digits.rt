@@ -125,10 +125,8 @@ fn truth(w: u64) -> bool
 
 // The n words from a place on as an expression, over variables whose kinds stand in the same words, from another place on.
 pub fn known_in(words: &[u64], from: usize, n: usize, kinds: usize, count: usize) -> u64
-    requires {
-        ⌜ (n ≤ 64) × (from + n ≤ length (now words)) × (kinds + count ≤ length (now words))
-        × ((v : ℕ) → v < count → getD (now words) (kinds + v) 0 < 2) ⌝
-    }
+    requires { ⌜ (n ≤ 64) × (from + n ≤ length (now words)) × (kinds + count ≤ length (now words))
+        × ((v : ℕ) → v < count → getD (now words) (kinds + v) 0 < 2) ⌝ }
     ensures { λ r. ⌜ r ≡ knownIn (take count (drop kinds (now (words .entry)))) (take n (drop from (now (words .entry)))) ⌝ }
 {
     let mut waiting: u64 = 0;

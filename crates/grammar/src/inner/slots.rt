@@ -4,7 +4,7 @@ use crate::values::Val;
 ghost use mathlib.Core.Path.{_≡_};
 ghost use Prim.Native.Nat.{_+_, _*_, _<_};
 ghost use lib.ListN.{length, set};
-ghost use Rattle.grammar.specs.Slots.{valOf, kindIn, payloadIn, FitVal};
+ghost use Rattle.grammar.specs.Slots.{valOf, kindIn, payloadIn, isValue, FitVal};
 
 // The payload of a value.
 pub fn payload_of(v: Val) -> u64
@@ -24,6 +24,17 @@ pub fn value_of(kind: u64, payload: u64) -> Val
         return Val::Boolean(payload == 1);
     }
     Val::Integer(bits::from_bits((payload % 4294967296) as u32))
+}
+
+// A kind and a payload are those of the value that they stand for.
+pub fn is_value(kind: u64, payload: u64) -> bool
+    ensures { λ r. ⌜ r ≡ isValue kind payload ⌝ }
+{
+    let x = value_of(kind, payload);
+    if x.kind().word() != kind {
+        return false;
+    }
+    payload_of(x) == payload
 }
 
 // Variable v gets the value x, in words v * 2 and v * 2 + 1.

@@ -12,9 +12,11 @@ returns c =
     let e = p .before .none .ensures in
     let a = p .before .before .before .before .before .args in
     let f : Limits → Outcome Done =
-    λ (l : Limits). addTransitionOf (a .t .now) (a .pre .0) (a .action .0) (a .post .0) (a .guarded) (a .guard .now) l in
-    (p .add-timed-transition .ensures .0 ∙ ap (λ (l : Limits). f l .answer) e, p .add-timed-transition .ensures .1
-    ∙ ap (λ (l : Limits). f l .table) e)
+    λ (l : Limits). addTransitionOf (a .t .now) (a .pre .0) (a .action .0) (a .post .0) (a .guarded) (a .guard .now) l in (
+      p .add-timed-transition .ensures .0 ∙ ap (λ (l : Limits). f l .answer) e,
+      p .add-timed-transition .ensures .1
+          ∙ ap (λ (l : Limits). f l .table) e,
+    )
 
 pub add-transition-spec : {M : Type 1} → statement M
 add-transition-spec = tie.close (tie.spec (λ c κs. search needs) (λ c κs. search needs) (λ c. search needs) returns)

@@ -57,9 +57,12 @@ put-location-requires c κs =
     let r = initial-ready _ _ (sym (k .initial-check .ensures) ∙ e .enum-told .given .1) in
     let u = p .put-process .ensures in
     let more : locationCount (p .put-process .last .0) ≡ locationCount t =
-    ap locationCount u ∙ process-locations t (processCount t) (n .location-count .result) in
-    (ap length u ∙ process-words t (processCount t) (n .location-count .result)
-    ∙ words-of _ true (r .location .formed), omega (arith, more, r .location .room), r .location .limits .0)
+    ap locationCount u ∙ process-locations t (processCount t) (n .location-count .result) in (
+      ap length u ∙ process-words t (processCount t) (n .location-count .result)
+          ∙ words-of _ true (r .location .formed),
+      omega (arith, more, r .location .room),
+      r .location .limits .0,
+    )
 
 cast-t15 : tie.Need-cast-t15
 cast-t15 c =

@@ -97,14 +97,10 @@ fn put_expressions<'a>(
     z: &'a [u64],
     count: usize,
 )
-    requires {
-        ⌜ Words (now t) × (a < actionRoom) × (count ≤ messageRoom)
-        × ((i : ℕ) → i < count → length (chosen (now w) (now x) (now y) (now z) i) ≤ itemRoom) ⌝
-    }
-    ensures {
-        λ _. ⌜ now (t .exit)
-        ≡ withExpressions (now (t .entry)) a (chosen (now (w .entry)) (now (x .entry)) (now (y .entry)) (now (z .entry))) count ⌝
-    }
+    requires { ⌜ Words (now t) × (a < actionRoom) × (count ≤ messageRoom)
+        × ((i : ℕ) → i < count → length (chosen (now w) (now x) (now y) (now z) i) ≤ itemRoom) ⌝ }
+    ensures { λ _. ⌜ now (t .exit)
+        ≡ withExpressions (now (t .entry)) a (chosen (now (w .entry)) (now (x .entry)) (now (y .entry)) (now (z .entry))) count ⌝ }
 {
     for e in 0..count {
         put_expression(t, a, e, choose(w, x, y, z, e));
@@ -120,14 +116,10 @@ pub fn put_send<'a>(
     z: &'a [u64],
     count: usize,
 )
-    requires {
-        ⌜ Words (now t) × (actionCount (now t) < actionRoom) × (count ≤ messageRoom)
-        × ((i : ℕ) → i < count → length (chosen (now w) (now x) (now y) (now z) i) ≤ itemRoom) ⌝
-    }
-    ensures {
-        λ _. ⌜ now (t .exit)
-        ≡ withSend (now (t .entry)) (chosen (now (w .entry)) (now (x .entry)) (now (y .entry)) (now (z .entry))) count ⌝
-    }
+    requires { ⌜ Words (now t) × (actionCount (now t) < actionRoom) × (count ≤ messageRoom)
+        × ((i : ℕ) → i < count → length (chosen (now w) (now x) (now y) (now z) i) ≤ itemRoom) ⌝ }
+    ensures { λ _. ⌜ now (t .exit)
+        ≡ withSend (now (t .entry)) (chosen (now (w .entry)) (now (x .entry)) (now (y .entry)) (now (z .entry))) count ⌝ }
 {
     let n = inner::action_count(t);
     put_expressions(t, n, w, x, y, z, count);

@@ -81,9 +81,7 @@ fn put_parts(t: &mut [u64], p: usize, n: usize, key: u64, guard: &[u64], handed:
 }
 
 pub fn put_transition(t: &mut [u64], key: u64, guard: &[u64], handed: Limits)
-    requires {
-        ⌜ Words (now t) × (transitionCount (now t) < transitionRoom) × (length (now guard) ≤ itemRoom) × (handed .count ≤ limitRoom) ⌝
-    }
+    requires { ⌜ Words (now t) × (transitionCount (now t) < transitionRoom) × (length (now guard) ≤ itemRoom) × (handed .count ≤ limitRoom) ⌝ }
     ensures { λ _. ⌜ now (t .exit) ≡ withTransition (now (t .entry)) key (now (guard .entry)) handed ⌝ }
 {
     let n = inner::transition_count(t);

@@ -1,10 +1,10 @@
 // Whether a run is one of a table's, handed in by value or as words.
 use crate::record::ProgramGraphRun;
+use grammar::inner::slots;
 use grammar::values::Slot;
 use graph_tables::inner;
-use graph_tables::sizes;
 use graph_tables::runs;
-use queues::inner::fits;
+use graph_tables::sizes;
 use run_steps::inner::waits;
 ghost use mathlib.Core.Path.{_≡_};
 ghost use mathlib.Core.Bool.{true};
@@ -106,7 +106,7 @@ fn var_words_fit(t: &[u64], ws: &[u64], v: usize) -> bool
     if kind != inner::kind_at(t, v) {
         return false;
     }
-    fits::is_value(kind, ws[2 * v + 1])
+    slots::is_value(kind, ws[2 * v + 1])
 }
 
 // So are those of the first n.

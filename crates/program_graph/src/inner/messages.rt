@@ -40,14 +40,10 @@ fn not_said(refused: Refusal) -> Said
 
 // A send that is open.
 fn say(t: &[u64], r: &mut [u64], a: usize, posts: &[u32], word: u64) -> Said
-    requires {
-        ⌜ Sound (now t) × RunOf (now t) (now r) × (length (now posts) ≡ runProcesses (now r)) × (a < actionCount (now t))
-        × (actionKind (now t) a ≡ sendKind) ⌝
-    }
-    ensures {
-        λ x. ⌜ DidSend (now (t .entry)) (now (r .entry)) x (now (r .exit)) (saidOf (now (t .entry)) (runAt (now (r .entry))) a
-        (now (posts .entry)) word) ⌝
-    }
+    requires { ⌜ Sound (now t) × RunOf (now t) (now r) × (length (now posts) ≡ runProcesses (now r)) × (a < actionCount (now t))
+        × (actionKind (now t) a ≡ sendKind) ⌝ }
+    ensures { λ x. ⌜ DidSend (now (t .entry)) (now (r .entry)) x (now (r .exit)) (saidOf (now (t .entry)) (runAt (now (r .entry))) a
+        (now (posts .entry)) word) ⌝ }
 {
     let spoken = messages::spoken(t, a, &r[runs::VARS..runs::CLOCKS], word);
     if !spoken.fits {
@@ -66,10 +62,8 @@ fn say(t: &[u64], r: &mut [u64], a: usize, posts: &[u32], word: u64) -> Said
 // A send on a table and a run that are known to fit.
 pub fn send_on(t: &[u64], r: &mut [u64], action: u32, posts: &[u32], word: u64) -> Said
     requires { ⌜ Sound (now t) × RunOf (now t) (now r) ⌝ }
-    ensures {
-        λ x. ⌜ DidSend (now (t .entry)) (now (r .entry)) x (now (r .exit)) (sentOf (now (t .entry)) (runAt (now (r .entry))) action
-        (now (posts .entry)) word) ⌝
-    }
+    ensures { λ x. ⌜ DidSend (now (t .entry)) (now (r .entry)) x (now (r .exit)) (sentOf (now (t .entry)) (runAt (now (r .entry))) action
+        (now (posts .entry)) word) ⌝ }
 {
     if action == Action::EPSILON.0 {
         return not_said(Refusal::NotSend);
@@ -90,25 +84,19 @@ pub fn send_on(t: &[u64], r: &mut [u64], action: u32, posts: &[u32], word: u64) 
 // The variables of a receive take the values.
 fn take_in(t: &[u64], r: &mut [u64], a: usize, message: Message)
     requires { ⌜ Sound (now t) × RunWords (now r) × (a < actionCount (now t)) × (actionKind (now t) a ≡ receiveKind) ⌝ }
-    ensures {
-        λ _. ⌜ Parts (now (r .exit)) (take runPlacesStart (now (r .entry))) (placesIn (now (r .entry))) (varsIn (now (r .exit)))
+    ensures { λ _. ⌜ Parts (now (r .exit)) (take runPlacesStart (now (r .entry))) (placesIn (now (r .entry))) (varsIn (now (r .exit)))
         (clocksIn (now (r .entry))) × VarsLeft (variableCount (now (t .entry))) (varsIn (now (r .entry))) (varsIn (now (r .exit)))
-        (takenOf (now (t .entry)) a message (slotsOf (varsIn (now (r .entry))))) ⌝
-    }
+        (takenOf (now (t .entry)) a message (slotsOf (varsIn (now (r .entry))))) ⌝ }
 {
     messages::take_in(t, a, message, &mut r[runs::VARS..runs::CLOCKS])
 }
 
 // A receive that is open.
 fn hear(t: &[u64], r: &mut [u64], a: usize, posts: &[u32], message: Message) -> Done
-    requires {
-        ⌜ Sound (now t) × RunOf (now t) (now r) × (length (now posts) ≡ runProcesses (now r)) × (a < actionCount (now t))
-        × (actionKind (now t) a ≡ receiveKind) ⌝
-    }
-    ensures {
-        λ x. ⌜ DidReceive (now (t .entry)) (now (r .entry)) x (now (r .exit)) (heardOf (now (t .entry)) (runAt (now (r .entry))) a
-        (now (posts .entry)) message) ⌝
-    }
+    requires { ⌜ Sound (now t) × RunOf (now t) (now r) × (length (now posts) ≡ runProcesses (now r)) × (a < actionCount (now t))
+        × (actionKind (now t) a ≡ receiveKind) ⌝ }
+    ensures { λ x. ⌜ DidReceive (now (t .entry)) (now (r .entry)) x (now (r .exit)) (heardOf (now (t .entry)) (runAt (now (r .entry))) a
+        (now (posts .entry)) message) ⌝ }
 {
     if !messages::message_fits(t, a, message) {
         return Done::Refused(Refusal::TypeMismatch);
@@ -121,10 +109,8 @@ fn hear(t: &[u64], r: &mut [u64], a: usize, posts: &[u32], message: Message) -> 
 // A receive on a table and a run that are known to fit.
 pub fn receive_on(t: &[u64], r: &mut [u64], action: u32, posts: &[u32], message: Message) -> Done
     requires { ⌜ Sound (now t) × RunOf (now t) (now r) ⌝ }
-    ensures {
-        λ x. ⌜ DidReceive (now (t .entry)) (now (r .entry)) x (now (r .exit)) (receivedOf (now (t .entry)) (runAt (now (r .entry))) action
-        (now (posts .entry)) message) ⌝
-    }
+    ensures { λ x. ⌜ DidReceive (now (t .entry)) (now (r .entry)) x (now (r .exit)) (receivedOf (now (t .entry)) (runAt (now (r .entry))) action
+        (now (posts .entry)) message) ⌝ }
 {
     if action == Action::EPSILON.0 {
         return Done::Refused(Refusal::NotReceive);

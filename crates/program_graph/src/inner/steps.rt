@@ -26,11 +26,9 @@ ghost use Rattle.program_graph.specs.Inner.{runAt, RunOf, Parts, Effects
 // Every process has a candidate that passes, with the clocks after.
 fn ready_on(t: &[u64], r: &[u64], after: &[u64], action: u32, posts: &[u32]) -> bool
     requires { ⌜ Sound (now t) × RunOf (now t) (now r) × (length (now after) ≡ clockRoom) × (length (now posts) ≡ runProcesses (now r)) ⌝ }
-    ensures {
-        λ x. ⌜ x
+    ensures { λ x. ⌜ x
         ≡ readyOf (now (t .entry)) (slotsOf (varsIn (now (r .entry)))) (clocksIn (now (r .entry))) (now (after .entry))
-        (placesIn (now (r .entry))) (runProcesses (now (r .entry))) action (now (posts .entry)) ⌝
-    }
+        (placesIn (now (r .entry))) (runProcesses (now (r .entry))) action (now (posts .entry)) ⌝ }
 {
     candidates::ready(
         t,
@@ -54,10 +52,8 @@ pub fn ready_still(t: &[u64], r: &[u64], action: u32, posts: &[u32]) -> bool
 // The processes at their posts.
 pub fn move_to(r: &mut [u64], posts: &[u32])
     requires { ⌜ RunWords (now r) × (length (now posts) ≤ processRoom) ⌝ }
-    ensures {
-        λ _. ⌜ Parts (now (r .exit)) (take runPlacesStart (now (r .entry))) (placedBelow (placesIn (now (r .entry))) (now (posts .entry))
-        (length (now (posts .entry)))) (varsIn (now (r .entry))) (clocksIn (now (r .entry))) ⌝
-    }
+    ensures { λ _. ⌜ Parts (now (r .exit)) (take runPlacesStart (now (r .entry))) (placedBelow (placesIn (now (r .entry))) (now (posts .entry))
+        (length (now (posts .entry)))) (varsIn (now (r .entry))) (clocksIn (now (r .entry))) ⌝ }
 {
     effects::place(&mut r[runs::PLACES..runs::PLACES + posts.len()], posts)
 }
@@ -65,10 +61,8 @@ pub fn move_to(r: &mut [u64], posts: &[u32])
 // The clocks at these times.
 pub fn set_times(r: &mut [u64], times: &[u64])
     requires { ⌜ RunWords (now r) × (length (now times) ≡ clockRoom) ⌝ }
-    ensures {
-        λ _. ⌜ Parts (now (r .exit)) (take runPlacesStart (now (r .entry))) (placesIn (now (r .entry))) (varsIn (now (r .entry)))
-        (now (times .entry)) ⌝
-    }
+    ensures { λ _. ⌜ Parts (now (r .exit)) (take runPlacesStart (now (r .entry))) (placesIn (now (r .entry))) (varsIn (now (r .entry)))
+        (now (times .entry)) ⌝ }
 {
     copies::copy(&mut r[runs::CLOCKS..runs::WORDS], times)
 }
@@ -84,9 +78,7 @@ fn times_after(t: &[u64], a: usize, r: &[u64], after: &mut [u64])
 
 // One effect at most, in place: where it has no value nothing is written.
 fn run_single(t: &[u64], r: &mut [u64], a: usize, word: u64) -> bool
-    requires {
-        ⌜ Sound (now t) × RunWords (now r) × (a < actionCount (now t)) × (actionKind (now t) a ≡ plainKind) × (effectCount (now t) a ≤ 1) ⌝
-    }
+    requires { ⌜ Sound (now t) × RunWords (now r) × (a < actionCount (now t)) × (actionKind (now t) a ≡ plainKind) × (effectCount (now t) a ≤ 1) ⌝ }
     ensures { λ x. ⌜ Effects (now (t .entry)) a word (now (r .entry)) x (now (r .exit)) ⌝ }
 {
     effects::run_effects(t, a, &mut r[runs::VARS..runs::CLOCKS], word)
@@ -120,10 +112,8 @@ fn run_effects(t: &[u64], r: &mut [u64], a: usize, word: u64) -> bool
 // A step by the reserved action.
 fn autonomous(t: &[u64], r: &mut [u64], posts: &[u32]) -> Done
     requires { ⌜ Sound (now t) × RunOf (now t) (now r) × (length (now posts) ≡ runProcesses (now r)) ⌝ }
-    ensures {
-        λ x. ⌜ DidStep (now (t .entry)) (now (r .entry)) x (now (r .exit)) (autonomousOf (now (t .entry)) (runAt (now (r .entry)))
-        (now (posts .entry))) ⌝
-    }
+    ensures { λ x. ⌜ DidStep (now (t .entry)) (now (r .entry)) x (now (r .exit)) (autonomousOf (now (t .entry)) (runAt (now (r .entry)))
+        (now (posts .entry))) ⌝ }
 {
     if !ready_still(t, r, Action::EPSILON.0, posts) {
         return Done::Refused(Refusal::UnsatisfiedGuard);
@@ -134,14 +124,10 @@ fn autonomous(t: &[u64], r: &mut [u64], posts: &[u32]) -> Done
 
 // A step by a plain action.
 fn plain(t: &[u64], r: &mut [u64], a: usize, posts: &[u32], word: u64) -> Done
-    requires {
-        ⌜ Sound (now t) × RunOf (now t) (now r) × (length (now posts) ≡ runProcesses (now r)) × (a < actionCount (now t))
-        × (actionKind (now t) a ≡ plainKind) ⌝
-    }
-    ensures {
-        λ x. ⌜ DidStep (now (t .entry)) (now (r .entry)) x (now (r .exit)) (plainOf (now (t .entry)) (runAt (now (r .entry))) a
-        (now (posts .entry)) word) ⌝
-    }
+    requires { ⌜ Sound (now t) × RunOf (now t) (now r) × (length (now posts) ≡ runProcesses (now r)) × (a < actionCount (now t))
+        × (actionKind (now t) a ≡ plainKind) ⌝ }
+    ensures { λ x. ⌜ DidStep (now (t .entry)) (now (r .entry)) x (now (r .exit)) (plainOf (now (t .entry)) (runAt (now (r .entry))) a
+        (now (posts .entry)) word) ⌝ }
 {
     let mut after = [0; sizes::CLOCKS];
     times_after(t, a, r, &mut after);
@@ -158,10 +144,8 @@ fn plain(t: &[u64], r: &mut [u64], a: usize, posts: &[u32], word: u64) -> Done
 
 fn acted(t: &[u64], r: &mut [u64], action: u32, posts: &[u32], word: u64) -> Done
     requires { ⌜ Sound (now t) × RunOf (now t) (now r) × (length (now posts) ≡ runProcesses (now r)) ⌝ }
-    ensures {
-        λ x. ⌜ DidStep (now (t .entry)) (now (r .entry)) x (now (r .exit)) (actedOf (now (t .entry)) (runAt (now (r .entry))) action
-        (now (posts .entry)) word) ⌝
-    }
+    ensures { λ x. ⌜ DidStep (now (t .entry)) (now (r .entry)) x (now (r .exit)) (actedOf (now (t .entry)) (runAt (now (r .entry))) action
+        (now (posts .entry)) word) ⌝ }
 {
     let a = action as usize;
     if inner::action_count(t) <= a {
@@ -176,10 +160,8 @@ fn acted(t: &[u64], r: &mut [u64], action: u32, posts: &[u32], word: u64) -> Don
 // A step on a table and a run that are known to fit.
 pub fn step(t: &[u64], r: &mut [u64], action: u32, posts: &[u32], word: u64) -> Done
     requires { ⌜ Sound (now t) × RunOf (now t) (now r) ⌝ }
-    ensures {
-        λ x. ⌜ DidStep (now (t .entry)) (now (r .entry)) x (now (r .exit)) (stepOf (now (t .entry)) (runAt (now (r .entry))) action
-        (now (posts .entry)) word) ⌝
-    }
+    ensures { λ x. ⌜ DidStep (now (t .entry)) (now (r .entry)) x (now (r .exit)) (stepOf (now (t .entry)) (runAt (now (r .entry))) action
+        (now (posts .entry)) word) ⌝ }
 {
     if posts.len() as u64 != r[runs::PROCESSES] {
         return Done::Refused(Refusal::MismatchingPostStates);

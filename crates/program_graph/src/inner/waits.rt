@@ -23,7 +23,11 @@ pub fn wait_fits(t: &[u64], r: &[u64], delta: u32) -> bool
     requires { ⌜ Sound (now t) × RunOf (now t) (now r) ⌝ }
     ensures { λ x. ⌜ x ≡ waitFits (runAt (now (r .entry))) delta ⌝ }
 {
-    waits::clocks_fit(&r[runs::CLOCKS..runs::WORDS], r[runs::TIMERS] as usize, delta)
+    waits::clocks_fit(
+        &r[runs::CLOCKS..runs::WORDS],
+        r[runs::TIMERS] as usize,
+        delta,
+    )
 }
 
 // The clocks after the wait, in words of their own.
@@ -38,9 +42,7 @@ fn times_later(t: &[u64], r: &[u64], delta: u32, times: &mut [u64])
 // The invariants at the place of every process.
 fn places_hold(t: &[u64], r: &[u64], times: &[u64]) -> bool
     requires { ⌜ Sound (now t) × RunOf (now t) (now r) × (length (now times) ≡ clockRoom) ⌝ }
-    ensures {
-        λ x. ⌜ x ≡ allBelow (runProcesses (now (r .entry))) (placeHolds (now (t .entry)) (placesIn (now (r .entry))) (now (times .entry))) ⌝
-    }
+    ensures { λ x. ⌜ x ≡ allBelow (runProcesses (now (r .entry))) (placeHolds (now (t .entry)) (placesIn (now (r .entry))) (now (times .entry))) ⌝ }
 {
     let n = r[runs::PROCESSES] as usize;
     waits::places_hold(t, &r[runs::PLACES..runs::PLACES + n], times)
@@ -59,9 +61,7 @@ pub fn wait_holds(t: &[u64], r: &[u64], delta: u32) -> bool
 // A wait on a table and a run that are known to fit.
 pub fn wait_on(t: &[u64], r: &mut [u64], delta: u32) -> Done
     requires { ⌜ Sound (now t) × RunOf (now t) (now r) ⌝ }
-    ensures {
-        λ x. ⌜ DidWait (now (t .entry)) (now (r .entry)) x (now (r .exit)) (waitedOf (now (t .entry)) (runAt (now (r .entry))) delta) ⌝
-    }
+    ensures { λ x. ⌜ DidWait (now (t .entry)) (now (r .entry)) x (now (r .exit)) (waitedOf (now (t .entry)) (runAt (now (r .entry))) delta) ⌝ }
 {
     if !wait_fits(t, r, delta) {
         return Done::Refused(Refusal::Overflow);

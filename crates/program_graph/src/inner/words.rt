@@ -43,20 +43,16 @@ fn put_counts(r: &mut [u64], run: ProgramGraphRun)
 
 fn put_places(r: &mut [u64], places: [u32; sizes::PROCESSES])
     requires { ⌜ RunWords (now r) ⌝ }
-    ensures {
-        λ _. ⌜ Parts (now (r .exit)) (take runPlacesStart (now (r .entry))) places (varsIn (now (r .entry))) (clocksIn (now (r .entry)))
-        × Small places ⌝
-    }
+    ensures { λ _. ⌜ Parts (now (r .exit)) (take runPlacesStart (now (r .entry))) places (varsIn (now (r .entry))) (clocksIn (now (r .entry)))
+        × Small places ⌝ }
 {
     widen(&mut r[runs::PLACES..runs::VARS], &places)
 }
 
 fn put_times(r: &mut [u64], times: [u32; sizes::CLOCKS])
     requires { ⌜ RunWords (now r) ⌝ }
-    ensures {
-        λ _. ⌜ Parts (now (r .exit)) (take runPlacesStart (now (r .entry))) (placesIn (now (r .entry))) (varsIn (now (r .entry))) times
-        × Small times ⌝
-    }
+    ensures { λ _. ⌜ Parts (now (r .exit)) (take runPlacesStart (now (r .entry))) (placesIn (now (r .entry))) (varsIn (now (r .entry))) times
+        × Small times ⌝ }
 {
     widen(&mut r[runs::CLOCKS..runs::WORDS], &times)
 }

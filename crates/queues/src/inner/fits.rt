@@ -9,7 +9,7 @@ ghost use lib.ListN.{length};
 ghost use Rattle.laws.specs.Below.{allBelow};
 ghost use Rattle.queues.specs.Layout.{QueueWords};
 ghost use Rattle.queues.specs.Queues.{storedOf, Counted};
-ghost use Rattle.queues.specs.Fits.{wholeMessages, kindFor, isValue, slotFits, countsFit, queueFits};
+ghost use Rattle.queues.specs.Fits.{wholeMessages, kindFor, slotFits, countsFit, queueFits};
 
 // So many slots are whole messages.
 fn whole_messages(width: usize, n: usize) -> bool
@@ -31,17 +31,6 @@ fn kind_for(kinds: &[u64], i: usize) -> u64
     kinds[i % slots]
 }
 
-// A kind and a payload are those of the value that they stand for.
-pub fn is_value(kind: u64, payload: u64) -> bool
-    ensures { λ r. ⌜ r ≡ isValue kind payload ⌝ }
-{
-    let x = slots::value_of(kind, payload);
-    if x.kind().word() != kind {
-        return false;
-    }
-    slots::payload_of(x) == payload
-}
-
 // Stored value i is one, of its kind.
 fn slot_fits(q: &[u64], kinds: &[u64], i: usize) -> bool
     requires { ⌜ Counted (now q) × (i < storedOf (now q)) × (0 < length (now kinds)) ⌝ }
@@ -51,7 +40,7 @@ fn slot_fits(q: &[u64], kinds: &[u64], i: usize) -> bool
     if kind != kind_for(kinds, i) {
         return false;
     }
-    is_value(kind, ring::payload_at(q, i))
+    slots::is_value(kind, ring::payload_at(q, i))
 }
 
 // So are the first n.

@@ -44,10 +44,8 @@ fn guard_holds(t: &[u64], k: usize, vars: &[u64]) -> bool
 
 // Transition k passes: its limits on the clocks as they are, the invariants of its post-location on the clocks after.
 pub fn passes(t: &[u64], vars: &[u64], clocks: &[u64], after: &[u64], k: usize) -> bool
-    requires {
-        ⌜ Sound (now t) × (k < transitionCount (now t)) × (length (now vars) ≡ 2 * variableRoom) × (length (now clocks) ≡ clockRoom)
-        × (length (now after) ≡ clockRoom) ⌝
-    }
+    requires { ⌜ Sound (now t) × (k < transitionCount (now t)) × (length (now vars) ≡ 2 * variableRoom) × (length (now clocks) ≡ clockRoom)
+        × (length (now after) ≡ clockRoom) ⌝ }
     ensures { λ r. ⌜ r ≡ passesOf (now (t .entry)) (slotsOf (now (vars .entry))) (now (clocks .entry)) (now (after .entry)) k ⌝ }
 {
     if !guard_holds(t, k, vars) {
@@ -61,15 +59,11 @@ pub fn passes(t: &[u64], vars: &[u64], clocks: &[u64], after: &[u64], k: usize) 
 
 // Transition k has a key, and it passes.
 fn leads(t: &[u64], vars: &[u64], clocks: &[u64], after: &[u64], key: u64, k: usize) -> bool
-    requires {
-        ⌜ Sound (now t) × (k < transitionCount (now t)) × (length (now vars) ≡ 2 * variableRoom) × (length (now clocks) ≡ clockRoom)
-        × (length (now after) ≡ clockRoom) ⌝
-    }
-    ensures {
-        λ r. ⌜ r
+    requires { ⌜ Sound (now t) × (k < transitionCount (now t)) × (length (now vars) ≡ 2 * variableRoom) × (length (now clocks) ≡ clockRoom)
+        × (length (now after) ≡ clockRoom) ⌝ }
+    ensures { λ r. ⌜ r
         ≡ leadsOf (now (t .entry)) (slotsOf (now (vars .entry))) (now (clocks .entry)) (now (after .entry)) (preOf key) (actionOf key)
-        (postOf key) k ⌝
-    }
+        (postOf key) k ⌝ }
 {
     if inner::key_of(t, k) != key {
         return false;
@@ -88,15 +82,11 @@ pub fn ready(
     action: u32,
     posts: &[u32],
 ) -> bool
-    requires {
-        ⌜ Sound (now t) × (length (now vars) ≡ 2 * variableRoom) × (length (now clocks) ≡ clockRoom) × (length (now after) ≡ clockRoom)
-        × ((p : ℕ) → p < length (now places) → getD (now places) p 0 < locationCount (now t)) × (length (now places) ≤ length (now posts)) ⌝
-    }
-    ensures {
-        λ r. ⌜ r
+    requires { ⌜ Sound (now t) × (length (now vars) ≡ 2 * variableRoom) × (length (now clocks) ≡ clockRoom) × (length (now after) ≡ clockRoom)
+        × ((p : ℕ) → p < length (now places) → getD (now places) p 0 < locationCount (now t)) × (length (now places) ≤ length (now posts)) ⌝ }
+    ensures { λ r. ⌜ r
         ≡ readyOf (now (t .entry)) (slotsOf (now (vars .entry))) (now (clocks .entry)) (now (after .entry)) (now (places .entry))
-        (length (now (places .entry))) action (now (posts .entry)) ⌝
-    }
+        (length (now (places .entry))) action (now (posts .entry)) ⌝ }
 {
     let count = inner::transition_count(t);
     let mut all = true;

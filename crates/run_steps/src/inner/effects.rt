@@ -38,11 +38,9 @@ pub fn reset(t: &[u64], a: usize, clocks: &mut [u64])
 // The effects of a plain action, in order, each seeing the ones before; the first without a value is the last.
 pub fn run_effects(t: &[u64], a: usize, vars: &mut [u64], word: u64) -> bool
     requires { ⌜ Sound (now t) × (a < actionCount (now t)) × (actionKind (now t) a ≡ plainKind) × (length (now vars) ≡ 2 * variableRoom) ⌝ }
-    ensures {
-        λ r. ⌜ (r ≡ effectedOf (now (t .entry)) a (slotsOf (now (vars .entry))) word .fits)
+    ensures { λ r. ⌜ (r ≡ effectedOf (now (t .entry)) a (slotsOf (now (vars .entry))) word .fits)
         × VarsLeft (variableCount (now (t .entry))) (now (vars .entry)) (now (vars .exit)) (effectedOf (now (t .entry)) a
-        (slotsOf (now (vars .entry))) word .vars) ⌝
-    }
+        (slotsOf (now (vars .entry))) word .vars) ⌝ }
 {
     let mut left = word;
     for e in 0..inner::effect_count(t, a) {

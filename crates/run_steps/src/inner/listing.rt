@@ -38,10 +38,8 @@ fn reset_by(t: &[u64], action: u32, clocks: &mut [u64])
 
 // Transition k leaves by a location and an action, which stand in the first key that it may have, and passes.
 fn opens_by(t: &[u64], vars: &[u64], clocks: &[u64], after: &[u64], first: u64, k: usize) -> bool
-    requires {
-        ⌜ Sound (now t) × (k < transitionCount (now t)) × (length (now vars) ≡ 2 * variableRoom) × (length (now clocks) ≡ clockRoom)
-        × (length (now after) ≡ clockRoom) × (now after ≡ clocksBy (now t) (actionOf first) (now clocks)) × (postOf first ≡ 0) ⌝
-    }
+    requires { ⌜ Sound (now t) × (k < transitionCount (now t)) × (length (now vars) ≡ 2 * variableRoom) × (length (now clocks) ≡ clockRoom)
+        × (length (now after) ≡ clockRoom) × (now after ≡ clocksBy (now t) (actionOf first) (now clocks)) × (postOf first ≡ 0) ⌝ }
     ensures { λ r. ⌜ r ≡ opensBy (now (t .entry)) (slotsOf (now (vars .entry))) (now (clocks .entry)) (preOf first) (actionOf first) k ⌝ }
 {
     if !waiting::leaves_by(t, first, k) {
@@ -75,15 +73,11 @@ fn seek_process(
     p: usize,
     number: usize,
 ) -> Sought
-    requires {
-        ⌜ Sound (now t) × (length (now vars) ≡ 2 * variableRoom) × (length (now clocks) ≡ clockRoom) × (length (now after) ≡ clockRoom)
-        × (now after ≡ clocksBy (now t) (actionOf first) (now clocks)) × (postOf first ≡ 0) ⌝
-    }
-    ensures {
-        λ r. ⌜ r
+    requires { ⌜ Sound (now t) × (length (now vars) ≡ 2 * variableRoom) × (length (now clocks) ≡ clockRoom) × (length (now after) ≡ clockRoom)
+        × (now after ≡ clocksBy (now t) (actionOf first) (now clocks)) × (postOf first ≡ 0) ⌝ }
+    ensures { λ r. ⌜ r
         ≡ seek (processEntries (now (t .entry)) (slotsOf (now (vars .entry))) (now (clocks .entry)) (preOf first)
-        (actionOf first) p) number ⌝
-    }
+        (actionOf first) p) number ⌝ }
 {
     let mut left = number;
     for k in 0..inner::transition_count(t) {
@@ -107,15 +101,11 @@ fn seek_processes(
     action: u32,
     number: usize,
 ) -> Sought
-    requires {
-        ⌜ Sound (now t) × (length (now vars) ≡ 2 * variableRoom) × (length (now clocks) ≡ clockRoom) × (length (now after) ≡ clockRoom)
-        × (now after ≡ clocksBy (now t) action (now clocks)) × PlacesKnown (now t) (now places) ⌝
-    }
-    ensures {
-        λ r. ⌜ r
+    requires { ⌜ Sound (now t) × (length (now vars) ≡ 2 * variableRoom) × (length (now clocks) ≡ clockRoom) × (length (now after) ≡ clockRoom)
+        × (now after ≡ clocksBy (now t) action (now clocks)) × PlacesKnown (now t) (now places) ⌝ }
+    ensures { λ r. ⌜ r
         ≡ seek (actionEntries (now (t .entry)) (slotsOf (now (vars .entry))) (now (clocks .entry)) (now (places .entry))
-        (length (now (places .entry))) action) number ⌝
-    }
+        (length (now (places .entry))) action) number ⌝ }
 {
     let mut left = number;
     for p in 0..places.len() {
@@ -139,11 +129,9 @@ pub fn seek_action(
     number: usize,
 ) -> Sought
     requires { ⌜ Lent (now t) (now vars) (now clocks) (now places) ⌝ }
-    ensures {
-        λ r. ⌜ r
+    ensures { λ r. ⌜ r
         ≡ seek (sharedEntries (now (t .entry)) (slotsOf (now (vars .entry))) (now (clocks .entry)) (now (places .entry))
-        (length (now (places .entry))) action) number ⌝
-    }
+        (length (now (places .entry))) action) number ⌝ }
 {
     if !waiting::is_shared(t, places, action) {
         return Sought::Left(number);
@@ -157,11 +145,9 @@ pub fn seek_action(
 // Entry of a number in the whole list: the table's actions, and last the reserved one.
 pub fn seek_entry(t: &[u64], vars: &[u64], clocks: &[u64], places: &[u64], number: usize) -> Sought
     requires { ⌜ Lent (now t) (now vars) (now clocks) (now places) ⌝ }
-    ensures {
-        λ r. ⌜ r
+    ensures { λ r. ⌜ r
         ≡ seek (listingOf (now (t .entry)) (slotsOf (now (vars .entry))) (now (clocks .entry)) (now (places .entry))
-        (length (now (places .entry)))) number ⌝
-    }
+        (length (now (places .entry)))) number ⌝ }
 {
     let mut left = number;
     for a in 0..inner::action_count(t) {

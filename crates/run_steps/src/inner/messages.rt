@@ -101,13 +101,9 @@ pub fn message_fits(t: &[u64], a: usize, message: Message) -> bool
 
 // The variables take a message's values: where one stands twice, the later value stays.
 pub fn take_in(t: &[u64], a: usize, message: Message, vars: &mut [u64])
-    requires {
-        ⌜ Sound (now t) × (a < actionCount (now t)) × (actionKind (now t) a ≡ receiveKind) × (length (now vars) ≡ 2 * variableRoom) ⌝
-    }
-    ensures {
-        λ _. ⌜ VarsLeft (variableCount (now (t .entry))) (now (vars .entry)) (now (vars .exit)) (takenOf (now (t .entry)) a message
-        (slotsOf (now (vars .entry)))) ⌝
-    }
+    requires { ⌜ Sound (now t) × (a < actionCount (now t)) × (actionKind (now t) a ≡ receiveKind) × (length (now vars) ≡ 2 * variableRoom) ⌝ }
+    ensures { λ _. ⌜ VarsLeft (variableCount (now (t .entry))) (now (vars .entry)) (now (vars .exit)) (takenOf (now (t .entry)) a message
+        (slotsOf (now (vars .entry)))) ⌝ }
 {
     let values = message.values;
     for e in 0..inner::effect_count(t, a) {

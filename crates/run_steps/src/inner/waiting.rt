@@ -120,10 +120,8 @@ pub fn is_shared(t: &[u64], places: &[u64], action: u32) -> bool
 
 // Transition k leaves the location of process p by an action that all have, and will be open later.
 fn is_awaited(t: &[u64], clocks: &[u64], places: &[u64], p: usize, k: usize) -> bool
-    requires {
-        ⌜ Sound (now t) × (length (now clocks) ≡ clockRoom) × PlacesKnown (now t) (now places) × (p < length (now places))
-        × (k < transitionCount (now t)) ⌝
-    }
+    requires { ⌜ Sound (now t) × (length (now clocks) ≡ clockRoom) × PlacesKnown (now t) (now places) × (p < length (now places))
+        × (k < transitionCount (now t)) ⌝ }
     ensures { λ r. ⌜ r ≡ awaitedOf (now (t .entry)) (now (clocks .entry)) (now (places .entry)) (length (now (places .entry))) p k ⌝ }
 {
     let key = inner::key_of(t, k);

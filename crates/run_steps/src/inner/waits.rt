@@ -37,13 +37,9 @@ pub fn shift(clocks: &mut [u64], n: usize, delta: u32)
 
 // The invariants at the place of every process.
 pub fn places_hold(t: &[u64], places: &[u64], clocks: &[u64]) -> bool
-    requires {
-        ⌜ Sound (now t) × (length (now clocks) ≡ clockRoom)
-        × ((p : ℕ) → p < length (now places) → getD (now places) p 0 < locationCount (now t)) ⌝
-    }
-    ensures {
-        λ r. ⌜ r ≡ allBelow (length (now (places .entry))) (placeHolds (now (t .entry)) (now (places .entry)) (now (clocks .entry))) ⌝
-    }
+    requires { ⌜ Sound (now t) × (length (now clocks) ≡ clockRoom)
+        × ((p : ℕ) → p < length (now places) → getD (now places) p 0 < locationCount (now t)) ⌝ }
+    ensures { λ r. ⌜ r ≡ allBelow (length (now (places .entry))) (placeHolds (now (t .entry)) (now (places .entry)) (now (clocks .entry))) ⌝ }
 {
     for p in 0..places.len() {
         if !limits::invariants_hold(t, places[p] as usize, clocks) {

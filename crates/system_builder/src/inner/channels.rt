@@ -42,12 +42,18 @@ fn kind_at(t: &[u64], q: usize, e: usize) -> Kind
     ensures { λ r. ⌜ r ≡ kindIn (now (t .entry)) q e ⌝ }
 {
     if words::width_of(t, q) <= e {
-        return Kind { kind: Type::Boolean };
+        return Kind {
+            kind: Type::Boolean,
+        };
     }
     if words::channel_kind(t, q, e) == values::BOOLEAN {
-        return Kind { kind: Type::Boolean };
+        return Kind {
+            kind: Type::Boolean,
+        };
     }
-    Kind { kind: Type::Integer }
+    Kind {
+        kind: Type::Integer,
+    }
 }
 
 // The kinds of a channel's messages.
@@ -55,7 +61,12 @@ pub fn kinds_at(t: &[u64], q: usize) -> Kinds
     requires { ⌜ SystemWords (now t) × (q < channelRoom) ⌝ }
     ensures { λ r. ⌜ r ≡ kindsIn (now (t .entry)) q ⌝ }
 {
-    let kinds = [kind_at(t, q, 0), kind_at(t, q, 1), kind_at(t, q, 2), kind_at(t, q, 3)];
+    let kinds = [
+        kind_at(t, q, 0),
+        kind_at(t, q, 1),
+        kind_at(t, q, 2),
+        kind_at(t, q, 3),
+    ];
     Kinds {
         kinds,
         count: words::width_of(t, q),

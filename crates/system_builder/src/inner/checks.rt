@@ -91,7 +91,16 @@ pub fn send_check<'a>(
     if let Done::Refused(r) = check {
         return Done::Refused(r);
     }
-    messages::sent_check(t, q as usize, words::graph_at(t, g as usize), w, x, y, z, count)
+    messages::sent_check(
+        t,
+        q as usize,
+        words::graph_at(t, g as usize),
+        w,
+        x,
+        y,
+        z,
+        count,
+    )
 }
 
 // A receive: then 5.

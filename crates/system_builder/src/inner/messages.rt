@@ -29,7 +29,14 @@ fn is_typed(graph: &[u64], items: &[u64]) -> bool
 }
 
 // Whether each expression has a kind.
-fn all_typed<'a>(graph: &[u64], w: &'a [u64], x: &'a [u64], y: &'a [u64], z: &'a [u64], count: usize) -> bool
+fn all_typed<'a>(
+    graph: &[u64],
+    w: &'a [u64],
+    x: &'a [u64],
+    y: &'a [u64],
+    z: &'a [u64],
+    count: usize,
+) -> bool
     requires { ⌜ Sound (now graph) ⌝ }
     ensures { λ r. ⌜ r ≡ allBelow count (sentTyped (now (graph .entry)) (chosen (now (w .entry)) (now (x .entry)) (now (y .entry)) (now (z .entry)))) ⌝ }
 {

@@ -1,17 +1,11 @@
 // How much a queue holds.
 use crate::ids::ChannelCapacity;
-use crate::sizes;
+use queues::inner::ring;
+use queues::layout;
 ghost use mathlib.Core.Path.{_≡_};
 ghost use Prim.Native.Nat.{_+_, _*_, _≤_, _<_};
 ghost use Rattle.graph_tables.specs.Sizes.{messageRoom, word32};
-ghost use Rattle.system_tables.specs.Ceiling.{slotCount, roundedUp, filledTo, ceiling, hasRoom};
-
-// The slots of a queue that a message of this width takes.
-pub fn slot_count(width: usize) -> u64
-    ensures { λ r. ⌜ r ≡ slotCount width ⌝ }
-{
-    width as u64
-}
+ghost use Rattle.system_tables.specs.Ceiling.{roundedUp, filledTo, ceiling, hasRoom};
 
 // n divided by d, rounded up.
 fn rounded_up(n: u64, d: u64) -> u64
@@ -27,7 +21,7 @@ fn filled_to(slots: u64, c: ChannelCapacity) -> u64
 {
     match c {
         ChannelCapacity::Bounded(n) => slots * rounded_up(n as u64, slots),
-        ChannelCapacity::Unbounded => sizes::QUEUE,
+        ChannelCapacity::Unbounded => layout::ROOM as u64,
         ChannelCapacity::Sink => 0,
     }
 }
@@ -37,7 +31,7 @@ pub fn ceiling_of(width: usize, c: ChannelCapacity) -> u64
     requires { ⌜ width ≤ messageRoom ⌝ }
     ensures { λ r. ⌜ r ≡ ceiling width c ⌝ }
 {
-    let slots = slot_count(width);
+    let slots = ring::slots_for(width) as u64;
     if slots == 0 {
         return 0;
     }
@@ -49,5 +43,5 @@ pub fn has_room(width: usize, c: ChannelCapacity) -> bool
     requires { ⌜ width ≤ messageRoom ⌝ }
     ensures { λ r. ⌜ r ≡ hasRoom width c ⌝ }
 {
-    ceiling_of(width, c) <= sizes::QUEUE
+    ceiling_of(width, c) <= layout::ROOM as u64
 }

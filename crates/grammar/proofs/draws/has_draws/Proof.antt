@@ -30,9 +30,10 @@ returns c =
 loop-again : tie.Need-loop-again Inv-loop μ-loop
 loop-again c =
     let l = c .before .before .before in
-    let items = l .before .args .items .now in
-    (omega arith,
-    omega (arith, no-draw (getD items (l .loop .at) 0) (c .if1 .left), draws-next items (l .loop .at) (omega arith), l .loop .inv .1))
+    let items = l .before .args .items .now in (
+      omega arith,
+      omega (arith, no-draw (getD items (l .loop .at) 0) (c .if1 .left), draws-next items (l .loop .at) (omega arith), l .loop .inv .1),
+    )
 
 returns-2 : tie.Need-returns-2 Inv-loop μ-loop
 returns-2 c =

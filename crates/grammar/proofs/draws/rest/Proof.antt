@@ -19,9 +19,11 @@ abbrev μ-loop : tie.MeasureT-loop
 loop-again : tie.Need-loop-again Inv-loop μ-loop
 loop-again c =
     let l = c .before .before .before in
-    let items = l .before .before .args .items .now in
-    (omega arith, ap (λ (n : ℕ). n / 2 ^ drawsOf (drop (l .loop .at + 1) items)) (c .left .ensures)
-    ∙ left-next items (l .loop .at) (l .loop .bits) (omega arith) ∙ l .loop .inv .1)
+    let items = l .before .before .args .items .now in (
+      omega arith,
+      ap (λ (n : ℕ). n / 2 ^ drawsOf (drop (l .loop .at + 1) items)) (c .left .ensures)
+          ∙ left-next items (l .loop .at) (l .loop .bits) (omega arith) ∙ l .loop .inv .1,
+    )
 
 returns : tie.Need-returns Inv-loop μ-loop
 returns c =

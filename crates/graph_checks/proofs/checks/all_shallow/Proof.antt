@@ -35,9 +35,11 @@ unfolding shallow
 loop-again c =
     let d = c .before in
     let k = d .before in
-    let l = k .before .before .before in
-    (omega arith, all-more _ _ (l .loop .inv .1)
-    (held (rw (k .kinds-of .ensures, k .before .choose .ensures) at (d .is-shallow .ensures)) (c .if1 .left)))
+    let l = k .before .before .before in (
+      omega arith,
+      all-more _ _ (l .loop .inv .1)
+          (held (rw (k .kinds-of .ensures, k .before .choose .ensures) at (d .is-shallow .ensures)) (c .if1 .left)),
+    )
 
 returns-2 : tie.Need-returns-2 Inv-loop μ-loop
 returns-2 c = sym (all-done _ _ (c .before .loop .i) (omega arith) (omega arith) (c .before .loop .inv .1))

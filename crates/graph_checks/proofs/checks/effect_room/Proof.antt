@@ -48,9 +48,13 @@ all-draws-requires : tie.Need-all-draws-requires
 all-draws-requires c κs =
     let n = c .before in
     let s = n .before .before .before .before in
-    let f = s .pre .0 in
-    (f .words, omega (arith, f .counts .actions, s .pre .1), omega (arith, c .if2 .left), λ e l. f .action _ (s .pre .1) .plain
-    (s .pre .2) .effect e (rw (n .effect-count .ensures) at l) .expression .short)
+    let f = s .pre .0 in (
+      f .words,
+      omega (arith, f .counts .actions, s .pre .1),
+      omega (arith, c .if2 .left),
+      λ e l. f .action _ (s .pre .1) .plain
+          (s .pre .2) .effect e (rw (n .effect-count .ensures) at l) .expression .short,
+    )
 
 add-if3 : tie.Need-add-if3
 add-if3 c =

@@ -30,9 +30,11 @@ returns-2 c =
 start-check-requires : tie.Need-start-check-requires
 start-check-requires c κs =
     let k = c .before .before in
-    let w = k .before in
-    (sound _ true (held (w .before .well-formed .ensures) (w .if1 .left)), limits-ready _ _
-    (sym (k .limits-check .ensures) ∙ c .enum-told .given .1) .0)
+    let w = k .before in (
+      sound _ true (held (w .before .well-formed .ensures) (w .if1 .left)),
+      limits-ready _ _
+          (sym (k .limits-check .ensures) ∙ c .enum-told .given .1) .0,
+    )
 
 returns-3 : tie.Need-returns-3
 unfolding initialCheck

@@ -34,9 +34,11 @@ unfolding expressionCheck
 loop-again c =
     let x = c .before .before in
     let k = x .before in
-    let l = k .before .before .before in
-    (omega arith, each-more _ (l .loop .i) (l .loop .inv .1)
-    (sym (rw (k .kinds-of .ensures, k .before .choose .ensures) at (x .expression-check .ensures)) ∙ c .enum-told .given .1))
+    let l = k .before .before .before in (
+      omega arith,
+      each-more _ (l .loop .i) (l .loop .inv .1)
+          (sym (rw (k .kinds-of .ensures, k .before .choose .ensures) at (x .expression-check .ensures)) ∙ c .enum-told .given .1),
+    )
 
 returns-2 : tie.Need-returns-2 Inv-loop μ-loop
 returns-2 c = each-done _ _ (c .before .loop .i) (omega arith) (omega arith) (c .before .loop .inv .1)

@@ -39,9 +39,11 @@ loop-again : tie.Need-loop-again Inv-loop μ-loop
 unfolding messageDraws
 loop-again c =
     let h = c .before in
-    let l = h .before .before in
-    (omega arith, omega (arith, few c, l .loop .inv .1),
-    rw (l .loop .inv .2, c .count-draws .ensures, h .choose .ensures) (sym (sum-more _ _)))
+    let l = h .before .before in (
+      omega arith,
+      omega (arith, few c, l .loop .inv .1),
+      rw (l .loop .inv .2, c .count-draws .ensures, h .choose .ensures) (sym (sum-more _ _)),
+    )
 
 returns : tie.Need-returns Inv-loop μ-loop
 returns c =

@@ -15,8 +15,11 @@ unfolding actionFormed
 returns-2 c =
     let a = c .before .before in
     let k = a .before in
-    rw (ne-eqb _ _ (rw (k .action-kind .ensures) at (a .if1 .left)), eq-eqb _ _
-    (rw (k .action-kind .ensures) at (c .before .if2 .taken))) (c .send-formed .ensures)
+    rw (
+      ne-eqb _ _ (rw (k .action-kind .ensures) at (a .if1 .left)),
+      eq-eqb _ _
+          (rw (k .action-kind .ensures) at (c .before .if2 .taken)),
+    ) (c .send-formed .ensures)
 
 returns-3 : tie.Need-returns-3
 unfolding actionFormed

@@ -50,9 +50,12 @@ all-processes-formed-requires c κs =
     let e0 = n1 .before in
     let f0 = e0 .before in
     let n0 = f0 .before in
-    let s = n0 .before .before in
-    (s .pre .0, omega (arith, n2 .process-count .ensures, s .pre .1 .processes), s .pre .1 .locations,
-    rw (n1 .location-count .ensures) at (held (f1 .all-locations-formed .ensures) (e1 .if2 .left)))
+    let s = n0 .before .before in (
+      s .pre .0,
+      omega (arith, n2 .process-count .ensures, s .pre .1 .processes),
+      s .pre .1 .locations,
+      rw (n1 .location-count .ensures) at (held (f1 .all-locations-formed .ensures) (e1 .if2 .left)),
+    )
 
 returns-3 : tie.Need-returns-3
 unfolding partsFormed

@@ -37,7 +37,7 @@ all-zero-inside-requires c κs =
       omega (arith, s .pre .2, small, g .invariant-group .ensures),
       omega (arith, c .invariant-count .ensures, few-limits t (invariantGroup l) (invariantCount t l) formed),
       λ i h. rw (g .invariant-group .ensures) (limits-fit t (invariantGroup l) (invariantCount t l) formed i
-      (omega (arith, c .invariant-count .ensures, h))),
+          (omega (arith, c .invariant-count .ensures, h))),
     )
 
 returns-2 : tie.Need-returns-2

@@ -31,8 +31,12 @@ returns-3 c =
     let b = c .before .whole2 .result in
     let ea : toZ w32 (ofZ w32 a) ≡ a = search needs in
     let eb : toZ w32 (ofZ w32 b) ≡ b = search needs in
-    rw (c .before .before .before .match .keys3) (rw (ea, eb, c .before .before .whole .ensures,
-    c .before .whole2 .ensures) at (c .product .ensures))
+    rw (c .before .before .before .match .keys3) (rw (
+      ea,
+      eb,
+      c .before .before .whole .ensures,
+      c .before .whole2 .ensures,
+    ) at (c .product .ensures))
 
 returns-4 : tie.Need-returns-4
 unfolding itemOf valuesOn
@@ -41,8 +45,12 @@ returns-4 c =
     let b = c .before .whole4 .result in
     let ea : toZ w32 (ofZ w32 a) ≡ a = search needs in
     let eb : toZ w32 (ofZ w32 b) ≡ b = search needs in
-    rw (c .before .before .before .match .keys4) (rw (ea, eb, c .before .before .whole3 .ensures,
-    c .before .whole4 .ensures) at (c .quotient .ensures))
+    rw (c .before .before .before .match .keys4) (rw (
+      ea,
+      eb,
+      c .before .before .whole3 .ensures,
+      c .before .whole4 .ensures,
+    ) at (c .quotient .ensures))
 
 returns-5 : tie.Need-returns-5
 unfolding itemOf valuesOn
@@ -51,8 +59,12 @@ returns-5 c =
     let b = c .before .whole6 .result in
     let ea : toZ w32 (ofZ w32 a) ≡ a = search needs in
     let eb : toZ w32 (ofZ w32 b) ≡ b = search needs in
-    rw (c .before .before .before .match .keys5) (rw (ea, eb, c .before .before .whole5 .ensures,
-    c .before .whole6 .ensures) at (c .remainder .ensures))
+    rw (c .before .before .before .match .keys5) (rw (
+      ea,
+      eb,
+      c .before .before .whole5 .ensures,
+      c .before .whole6 .ensures,
+    ) at (c .remainder .ensures))
 
 returns-6 : tie.Need-returns-6
 unfolding itemOf valuesOn

@@ -13,9 +13,11 @@ unfolding heldOf
 returns c = rw (zero-yes (c .before .fits .b) (c .if1 .taken))
 
 rem-in-range : tie.Need-rem-in-range
-rem-in-range c =
-    (divisor _ (c .if1 .left), op-fits quotZ (c .before .fits .a) (c .before .fits .b)
-    (quotient-fits (c .before .fits .a) (c .before .fits .b)))
+rem-in-range c = (
+  divisor _ (c .if1 .left),
+  op-fits quotZ (c .before .fits .a) (c .before .fits .b)
+      (quotient-fits (c .before .fits .a) (c .before .fits .b)),
+)
 
 returns-2 : tie.Need-returns-2
 returns-2 c =

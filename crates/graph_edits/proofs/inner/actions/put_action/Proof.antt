@@ -8,8 +8,13 @@ returns c =
     let e = d .before .before .before .before in
     let r = e .before .before .before .before in
     let k = r .before .before .before .before in
-    rw (d .set-action-count .ensures, e .set-effect-count .ensures, r .set-reset-count .ensures, k .set-action-kind .ensures,
-    k .before .before .action-count .ensures)
+    rw (
+      d .set-action-count .ensures,
+      e .set-effect-count .ensures,
+      r .set-reset-count .ensures,
+      k .set-action-kind .ensures,
+      k .before .before .action-count .ensures,
+    )
 
 pub put-action-spec : {M : Type 1} → statement M
 put-action-spec =

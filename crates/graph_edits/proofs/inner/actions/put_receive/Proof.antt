@@ -8,9 +8,10 @@ put-action-requires : tie.Need-put-action-requires
 put-action-requires c κs =
     let r = c .before .before .before in
     let n = r .before .before in
-    let s = n .before .before .before .args in
-    (omega arith,
-    rw (r .put-targets .ensures, targets-actions (s .t .now) (n .action-count .result) (s .handed) (s .handed .count)) (omega arith))
+    let s = n .before .before .before .args in (
+      omega arith,
+      rw (r .put-targets .ensures, targets-actions (s .t .now) (n .action-count .result) (s .handed) (s .handed .count)) (omega arith),
+    )
 
 pub put-receive-spec : {M : Type 1} → statement M
 put-receive-spec =

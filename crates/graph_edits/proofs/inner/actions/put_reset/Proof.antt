@@ -10,8 +10,15 @@ returns c =
     let n = o .before in
     let p = n .before in
     let q = p .before .before in
-    rw (d .set-reset-count .ensures, r .set-reset .ensures, o .open-gap .ensures, n .reset-cell2 .ensures, p .reset-cell .ensures,
-    q .reset-place .ensures .0, q .before .before .reset-count .ensures)
+    rw (
+      d .set-reset-count .ensures,
+      r .set-reset .ensures,
+      o .open-gap .ensures,
+      n .reset-cell2 .ensures,
+      p .reset-cell .ensures,
+      q .reset-place .ensures .0,
+      q .before .before .reset-count .ensures,
+    )
 
 pub put-reset-spec : {M : Type 1} → statement M
 put-reset-spec =

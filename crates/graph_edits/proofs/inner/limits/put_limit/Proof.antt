@@ -14,8 +14,17 @@ returns c =
     let p = n .before in
     let q = p .before .before in
     let b = q .before .before in
-    rw (h .set-upper .ensures, l .set-lower .ensures, k .set-clock .ensures, o .open-gap .ensures, n .limit-row2 .ensures,
-    p .limit-row .ensures, q .limit-place .ensures .0, b .before .bound-word .ensures, b .bound-word2 .ensures)
+    rw (
+      h .set-upper .ensures,
+      l .set-lower .ensures,
+      k .set-clock .ensures,
+      o .open-gap .ensures,
+      n .limit-row2 .ensures,
+      p .limit-row .ensures,
+      q .limit-place .ensures .0,
+      b .before .bound-word .ensures,
+      b .bound-word2 .ensures,
+    )
 
 pub put-limit-spec : {M : Type 1} → statement M
 put-limit-spec =

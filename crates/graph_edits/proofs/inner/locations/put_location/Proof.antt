@@ -8,8 +8,13 @@ returns c =
     let i = d .before .before .before .before in
     let p = i .before .before .before .before in
     let g = p .before in
-    rw (d .set-location-count .ensures, i .set-invariant-count .ensures, p .put-limits .ensures, g .invariant-group .ensures,
-    g .before .before .location-count .ensures)
+    rw (
+      d .set-location-count .ensures,
+      i .set-invariant-count .ensures,
+      p .put-limits .ensures,
+      g .invariant-group .ensures,
+      g .before .before .location-count .ensures,
+    )
 
 pub put-location-spec : {M : Type 1} → statement M
 put-location-spec =

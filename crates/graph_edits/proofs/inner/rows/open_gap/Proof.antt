@@ -20,11 +20,17 @@ loop-holds c = (omega arith, (omega arith, (refl, gap-none (c .args .t .now) (c 
 loop-again : tie.Need-loop-again Inv-loop μ-loop
 loop-again c =
     let l = c .before .before in
-    let a = l .before .args in
-    (omega arith,
-    (omega arith,
-    (simp length-set (omega arith), gap-step (a .t .now) (l .loop .t) (l .loop .i) (a .hi) (a .w) (omega arith) (omega arith) (omega arith)
-    (l .loop .inv .1 .1 .1))))
+    let a = l .before .args in (
+      omega arith,
+      (
+        omega arith,
+        (
+          simp length-set (omega arith),
+          gap-step (a .t .now) (l .loop .t) (l .loop .i) (a .hi) (a .w) (omega arith) (omega arith) (omega arith)
+              (l .loop .inv .1 .1 .1),
+        ),
+      ),
+    )
 
 returns : tie.Need-returns Inv-loop μ-loop
 returns c =

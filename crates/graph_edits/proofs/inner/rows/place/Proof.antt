@@ -42,7 +42,7 @@ returns c =
     let a = l .before .args in
     let e = l .loop .inv .1 .0 in (
       sym (l .loop .inv .1 .1
-      ∙ place-here (numberAt (a .t .now) (a .base) (a .w)) (a .k) (l .loop .i) (a .n) (omega arith) (rw e at (c .if1 .taken))),
+          ∙ place-here (numberAt (a .t .now) (a .base) (a .w)) (a .k) (l .loop .i) (a .n) (omega arith) (rw e at (c .if1 .taken))),
       l .loop .inv .0,
     )
 
@@ -60,8 +60,11 @@ loop-again c =
     let e = l .loop .inv .1 .0 in
     let more : a .w * (l .loop .i + 1) ≡ a .w * l .loop .i + a .w = rw (add-one (l .loop .i)) (mul-suc (a .w) (l .loop .i)) in (
       omega arith,
-      (omega (arith, more), l .loop .inv .1 .1
-      ∙ place-next (numberAt (a .t .now) (a .base) (a .w)) (a .k) (l .loop .i) (a .n) (omega arith) (rw e at (c .if1 .left))),
+      (
+        omega (arith, more),
+        l .loop .inv .1 .1
+            ∙ place-next (numberAt (a .t .now) (a .base) (a .w)) (a .k) (l .loop .i) (a .n) (omega arith) (rw e at (c .if1 .left)),
+      ),
     )
 
 returns-2 : tie.Need-returns-2 Inv-loop μ-loop

@@ -20,10 +20,14 @@ loop-holds c = let a = c .args in (omega arith, (refl, paste-none (a .t .now) (a
 loop-again : tie.Need-loop-again Inv-loop μ-loop
 loop-again c =
     let l = c .before .before in
-    let a = l .before .args in
-    (omega arith,
-    (simp length-set (omega arith), paste-step (a .t .now) (l .loop .t) (a .at) (a .row .now) (l .loop .k) (omega arith) (omega arith)
-    (l .loop .inv .1 .1)))
+    let a = l .before .args in (
+      omega arith,
+      (
+        simp length-set (omega arith),
+        paste-step (a .t .now) (l .loop .t) (a .at) (a .row .now) (l .loop .k) (omega arith) (omega arith)
+            (l .loop .inv .1 .1),
+      ),
+    )
 
 returns : tie.Need-returns Inv-loop μ-loop
 returns c =

@@ -11,8 +11,14 @@ returns c =
     let k = g .before .before .before .before in
     let o = k .before .before .before .before in
     let n = o .before in
-    rw (l .set-limit-count .ensures, g .set-guard-length .ensures, k .set-key .ensures, o .open-gap .ensures, n .transition-row2 .ensures,
-    n .before .transition-row .ensures)
+    rw (
+      l .set-limit-count .ensures,
+      g .set-guard-length .ensures,
+      k .set-key .ensures,
+      o .open-gap .ensures,
+      n .transition-row2 .ensures,
+      n .before .transition-row .ensures,
+    )
 
 pub put-row-spec : {M : Type 1} → statement M
 put-row-spec =

@@ -31,8 +31,8 @@ loop-again c =
       omega arith,
       omega (arith, c .effect-draws .ensures .1, l .loop .inv .1),
       ap (λ (n : ℕ). n + c .effect-draws .result) (l .loop .inv .2)
-      ∙ ap (λ (n : ℕ). sumBelow (l .loop .e) (effectDraws (l .before .before .args .t .now) (l .before .before .args .a)) + n)
-      (c .effect-draws .ensures .0) ∙ sym (sum-more _ _),
+          ∙ ap (λ (n : ℕ). sumBelow (l .loop .e) (effectDraws (l .before .before .args .t .now) (l .before .before .args .a)) + n)
+          (c .effect-draws .ensures .0) ∙ sym (sum-more _ _),
     )
 
 returns : tie.Need-returns Inv-loop μ-loop

@@ -17,10 +17,17 @@ unfolding effectDraws
 returns c =
     let s = c .before .before .before in
     let items = effectItems (s .args .t .now) (s .args .a) (s .args .e) in
-    let e : c .count-draws .result ≡ drawsOf items = c .count-draws .ensures ∙ ap drawsOf (c .before .effect-items .ensures) in
-    (e,
-    omega (arith, e, draws-few items, length-take (effectLength (s .args .t .now) (s .args .a) (s .args .e))
-    (drop (effectSlot (s .args .a) (s .args .e)) (s .args .t .now)), s .pre .3))
+    let e : c .count-draws .result ≡ drawsOf items = c .count-draws .ensures ∙ ap drawsOf (c .before .effect-items .ensures) in (
+      e,
+      omega (
+        arith,
+        e,
+        draws-few items,
+        length-take (effectLength (s .args .t .now) (s .args .a) (s .args .e))
+            (drop (effectSlot (s .args .a) (s .args .e)) (s .args .t .now)),
+        s .pre .3,
+      ),
+    )
 
 pub effect-draws-spec : {M : Type 1} → statement M
 effect-draws-spec = tie.close (tie.spec (λ c κs. search needs) (λ c κs. search needs) returns)

@@ -27,9 +27,12 @@ load-requires c κs =
     let did = x .send-on .ensures in
     let small =
     sent-small (s .args .t .now) (s .args .run) (k .store .last .0) (s .pre .0) (s .pre .1) (k .store .ensures) (s .args .action)
-    (s .args .posts .now) _ (s .args .word) _ did in
-    (did .words .words, omega (arith, variables-same (s .args .t .now) (s .args .run) (s .pre .1), s .pre .0 .counts .variables), small .0,
-    small .1)
+    (s .args .posts .now) _ (s .args .word) _ did in (
+      did .words .words,
+      omega (arith, variables-same (s .args .t .now) (s .args .run) (s .pre .1), s .pre .0 .counts .variables),
+      small .0,
+      small .1,
+    )
 
 returns : tie.Need-returns
 returns c =

@@ -7,8 +7,13 @@ returns c =
     let v = c .before in
     let p = v .before in
     let m = p .before in
-    rw (c .clock-count .ensures, v .start-vars .ensures, p .start-places .ensures, m .variable-count .ensures,
-    m .before .process-count .ensures)
+    rw (
+      c .clock-count .ensures,
+      v .start-vars .ensures,
+      p .start-places .ensures,
+      m .variable-count .ensures,
+      m .before .process-count .ensures,
+    )
 
 pub fresh-spec : {M : Type 1} → statement M
 fresh-spec =

@@ -27,9 +27,12 @@ seek-action-requires : tie.Need-seek-action-requires
 seek-action-requires c κs =
     let s = c .before .before .before .before .before .before in
     let n = runProcesses (s .args .r .now) in
-    let e : 3 + n - 3 ≡ n = omega arith in
-    (s .pre .0, vars-length (s .args .r .now) (s .pre .1 .words), times-length (s .args .r .now) (s .pre .1 .words),
-    rw e (lent-known (s .args .t .now) (s .args .r .now) (s .pre .0) (s .pre .1) n refl))
+    let e : 3 + n - 3 ≡ n = omega arith in (
+      s .pre .0,
+      vars-length (s .args .r .now) (s .pre .1 .words),
+      times-length (s .args .r .now) (s .pre .1 .words),
+      rw e (lent-known (s .args .t .now) (s .args .r .now) (s .pre .0) (s .pre .1) n refl),
+    )
 
 returns : tie.Need-returns
 returns c =

@@ -33,10 +33,12 @@ returns-2 c =
     let k = l .before in
     let s = k .before .before .before .before in
     rung-passed (DidReceive (s .args .t .now) (s .args .r .now) Done.Accepted (m .move-to .last .0)) _ _
-    (held (k .message-fits .ensures) (l .if1 .left))
-    (refl, taken-moved (s .args .t .now) (s .args .r .now) (s .args .posts .now) _ _ _ (s .pre .1) (s .pre .2) (i .take-in .ensures .0)
-    (i .take-in .ensures .1)
-    (m .move-to .ensures))
+    (held (k .message-fits .ensures) (l .if1 .left)) (
+      refl,
+      taken-moved (s .args .t .now) (s .args .r .now) (s .args .posts .now) _ _ _ (s .pre .1) (s .pre .2) (i .take-in .ensures .0)
+          (i .take-in .ensures .1)
+          (m .move-to .ensures),
+    )
 
 pub hear-spec : {M : Type 1} → statement M
 hear-spec =

@@ -20,8 +20,12 @@ returns c =
     let s = k .before .before .before .before .before .before in
     let none = failed (ap (λ (x : Speech). x .fits) (k .spoken .ensures)) (f .if1 .taken) in
     rung-stopped (DidSend (s .args .t .now) (s .args .r .now) (c .not-said .result) (s .args .r .now)) _ _ none
-    (record { answer = ap (λ (x : Said). x .answer) (c .not-said .ensures); message = ap (λ (x : Said). x .message)
-    (c .not-said .ensures); words = leaves-same (s .args .t .now) (s .args .r .now) (s .pre .1) })
+    (record {
+      answer = ap (λ (x : Said). x .answer) (c .not-said .ensures);
+      message = ap (λ (x : Said). x .message)
+          (c .not-said .ensures);
+      words = leaves-same (s .args .t .now) (s .args .r .now) (s .pre .1);
+    })
 
 move-to-requires : tie.Need-move-to-requires
 move-to-requires c κs =

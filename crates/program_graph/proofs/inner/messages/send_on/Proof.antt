@@ -19,9 +19,13 @@ returns c =
     let s = x .before .before .before .before .before in
     rung-stopped (DidSend (s .args .t .now) (s .args .r .now) (c .not-said .result) (s .args .r .now)) _ _
     (ap not
-    (eq-eqb _ _ (x .if1 .taken))) (record { answer = ap (λ (x : Said). x .answer)
-    (c .not-said .ensures); message = ap (λ (x : Said). x .message) (c .not-said .ensures); words = leaves-same (s .args .t .now)
-    (s .args .r .now) (s .pre .1) })
+    (eq-eqb _ _ (x .if1 .taken))) (record {
+      answer = ap (λ (x : Said). x .answer)
+          (c .not-said .ensures);
+      message = ap (λ (x : Said). x .message) (c .not-said .ensures);
+      words = leaves-same (s .args .t .now)
+          (s .args .r .now) (s .pre .1);
+    })
 
 returns-2 : tie.Need-returns-2
 unfolding sentOf
@@ -32,8 +36,12 @@ returns-2 c =
     let did = DidSend (s .args .t .now) (s .args .r .now) (c .not-said2 .result) (s .args .r .now) in
     rung-passed did _ _ (ap not (ne-eqb _ _ (a .if1 .left)))
     (rung-stopped did _ _ (ne-eqb _ _ (x .if2 .taken))
-    (record { answer = ap (λ (x : Said). x .answer) (c .not-said2 .ensures); message = ap (λ (x : Said). x .message)
-    (c .not-said2 .ensures); words = leaves-same (s .args .t .now) (s .args .r .now) (s .pre .1) }))
+    (record {
+      answer = ap (λ (x : Said). x .answer) (c .not-said2 .ensures);
+      message = ap (λ (x : Said). x .message)
+          (c .not-said2 .ensures);
+      words = leaves-same (s .args .t .now) (s .args .r .now) (s .pre .1);
+    }))
 
 returns-3 : tie.Need-returns-3
 unfolding sentOf
@@ -46,8 +54,12 @@ returns-3 c =
     let did = DidSend (s .args .t .now) (s .args .r .now) (c .not-said3 .result) (s .args .r .now) in
     rung-passed did _ _ (ap not (ne-eqb _ _ (a .if1 .left))) (rung-passed did _ _ (eq-eqb _ _ (b .if2 .left))
     (rung-stopped did _ _ (failed (k .ready-still .ensures) (x .if3 .taken))
-    (record { answer = ap (λ (x : Said). x .answer) (c .not-said3 .ensures); message = ap (λ (x : Said). x .message)
-    (c .not-said3 .ensures); words = leaves-same (s .args .t .now) (s .args .r .now) (s .pre .1) })))
+    (record {
+      answer = ap (λ (x : Said). x .answer) (c .not-said3 .ensures);
+      message = ap (λ (x : Said). x .message)
+          (c .not-said3 .ensures);
+      words = leaves-same (s .args .t .now) (s .args .r .now) (s .pre .1);
+    })))
 
 returns-4 : tie.Need-returns-4
 unfolding sentOf
@@ -63,8 +75,12 @@ returns-4 c =
     rung-passed did _ _ (ap not (ne-eqb _ _ (a .if1 .left))) (rung-passed did _ _ (eq-eqb _ _ (b .if2 .left))
     (rung-passed did _ _ (held (k .ready-still .ensures) (d .if3 .left))
     (rung-stopped did _ _ (failed (i .is-kind .ensures) (x .if4 .taken))
-    (record { answer = ap (λ (x : Said). x .answer) (c .not-said4 .ensures); message = ap (λ (x : Said). x .message)
-    (c .not-said4 .ensures); words = leaves-same (s .args .t .now) (s .args .r .now) (s .pre .1) }))))
+    (record {
+      answer = ap (λ (x : Said). x .answer) (c .not-said4 .ensures);
+      message = ap (λ (x : Said). x .message)
+          (c .not-said4 .ensures);
+      words = leaves-same (s .args .t .now) (s .args .r .now) (s .pre .1);
+    }))))
 
 say-requires : tie.Need-say-requires
 say-requires c κs =

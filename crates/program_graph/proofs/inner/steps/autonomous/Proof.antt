@@ -31,9 +31,11 @@ returns-2 c =
     let k = m .before .before .before in
     let s = k .before .before .before .before .before in
     rung-passed (DidStep (s .args .t .now) (s .args .r .now) Done.Accepted (m .move-to .last .0)) _ _
-    (held (k .ready-still .ensures) (m .before .before .if1 .left))
-    (refl, leaves-moved (s .args .t .now) (s .args .r .now) _ (s .args .posts .now) _ _ _ (s .pre .1) (s .pre .2) (m .move-to .ensures)
-    (vars-same _ _))
+    (held (k .ready-still .ensures) (m .before .before .if1 .left)) (
+      refl,
+      leaves-moved (s .args .t .now) (s .args .r .now) _ (s .args .posts .now) _ _ _ (s .pre .1) (s .pre .2) (m .move-to .ensures)
+          (vars-same _ _),
+    )
 
 pub autonomous-spec : {M : Type 1} → statement M
 autonomous-spec =

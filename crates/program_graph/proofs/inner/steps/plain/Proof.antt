@@ -59,10 +59,12 @@ returns-3 c =
     let times = rw (a .times-after .ensures) at (u .set-times .ensures) in
     let did = DidStep (s .args .t .now) (s .args .r .now) Done.Accepted (m .move-to .last .0) in
     rung-passed did _ _ (held ready (l .if1 .left))
-    (rung-passed did _ _ all
-    (refl, effects-moved (s .args .t .now) (s .args .a) (s .args .word) (s .args .r .now) (s .pre .1) (e .run-effects .ensures)
-    (s .args .posts .now) _ _ _
-    (s .pre .2) all times (m .move-to .ensures)))
+    (rung-passed did _ _ all (
+      refl,
+      effects-moved (s .args .t .now) (s .args .a) (s .args .word) (s .args .r .now) (s .pre .1) (e .run-effects .ensures)
+          (s .args .posts .now) _ _ _
+          (s .pre .2) all times (m .move-to .ensures),
+    ))
 
 pub plain-spec : {M : Type 1} → statement M
 plain-spec =

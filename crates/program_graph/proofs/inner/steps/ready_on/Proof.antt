@@ -19,8 +19,7 @@ ready-requires c κs =
     let s = c .before .before .before .before .before .before .before in
     let n = length (s .args .posts .now) in
     let e : 3 + n - 3 ≡ n = omega arith in
-    let size = lent-length (s .args .t .now) (s .args .r .now) (s .pre .0) (s .pre .1) n (s .pre .3) in
-    (
+    let size = lent-length (s .args .t .now) (s .args .r .now) (s .pre .0) (s .pre .1) n (s .pre .3) in (
       s .pre .0,
       vars-length (s .args .r .now) (s .pre .1 .words),
       times-length (s .args .r .now) (s .pre .1 .words),

@@ -29,9 +29,11 @@ waiting-requires : tie.Need-waiting-requires
 waiting-requires c κs =
     let s = c .before .before .before .before .before .before .before in
     let n = runProcesses (s .args .r .now) in
-    let e : 3 + n - 3 ≡ n = omega arith in
-    (s .pre .0, times-length (s .args .r .now) (s .pre .1 .words),
-    rw e (lent-known (s .args .t .now) (s .args .r .now) (s .pre .0) (s .pre .1) n refl))
+    let e : 3 + n - 3 ≡ n = omega arith in (
+      s .pre .0,
+      times-length (s .args .r .now) (s .pre .1 .words),
+      rw e (lent-known (s .args .t .now) (s .args .r .now) (s .pre .0) (s .pre .1) n refl),
+    )
 
 returns-2 : tie.Need-returns-2
 returns-2 c =

@@ -25,9 +25,11 @@ loop-again : tie.Need-loop-again Inv-loop μ-loop
 loop-again c =
     let p = c .before .before in
     let l = p .before .before .before .before in
-    let s = l .before .before in
-    (omega arith, stored-more (l .loop .ws) (s .args .t2) (l .loop .v) _ (omega (arith, s .pre .1)) (p .put .ensures .1) refl
-    (l .loop .inv .1) (p .put .ensures .0))
+    let s = l .before .before in (
+      omega arith,
+      stored-more (l .loop .ws) (s .args .t2) (l .loop .v) _ (omega (arith, s .pre .1)) (p .put .ensures .1) refl
+          (l .loop .inv .1) (p .put .ensures .0),
+    )
 
 returns : tie.Need-returns Inv-loop μ-loop
 returns c =

@@ -24,16 +24,21 @@ cast-to c = omega (arith, c .shared-slice-known .given (c .before .before .loop 
 
 loop-again : tie.Need-loop-again Inv-loop μ-loop
 loop-again c =
-    let l = c .before .before in
-    (omega arith, simp length-set (l .loop .inv .1), filled-more 0 _ _ _ _ (l .loop .inv .2) (omega arith) refl,
-    one-more (λ (j : ℕ). getD (l .before .args .from .now) j 0 < word32) (l .loop .i) (l .loop .inv .3)
-    (omega (arith, c .shared-slice-known .given (l .loop .i))))
+    let l = c .before .before in (
+      omega arith,
+      simp length-set (l .loop .inv .1),
+      filled-more 0 _ _ _ _ (l .loop .inv .2) (omega arith) refl,
+      one-more (λ (j : ℕ). getD (l .before .args .from .now) j 0 < word32) (l .loop .i) (l .loop .inv .3)
+          (omega (arith, c .shared-slice-known .given (l .loop .i))),
+    )
 
 returns : tie.Need-returns Inv-loop μ-loop
 returns c =
-    let inv = c .before .loop .inv in
-    (filled-all 0 _ _ (c .before .loop .i) (inv .2) (inv .1) (omega arith), small-all (c .before .before .args .from .now)
-    (λ i l. inv .3 i (omega arith)))
+    let inv = c .before .loop .inv in (
+      filled-all 0 _ _ (c .before .loop .i) (inv .2) (inv .1) (omega arith),
+      small-all (c .before .before .args .from .now)
+          (λ i l. inv .3 i (omega arith)),
+    )
 
 pub widen-spec : {M : Type 1} → statement M
 widen-spec =

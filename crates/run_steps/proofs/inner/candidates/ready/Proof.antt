@@ -44,9 +44,13 @@ loop-holds c = (refl, search needs, any-none _)
 
 leads-requires : tie.Need-leads-requires Inv-loop μ-loop Inv-processes μ-processes
 leads-requires c κs =
-    let s = c .before .before .before .before .before .before .before .before .before .before .before .before .before .before .before in
-    (s .pre .0, omega (arith, c .before .before .before .before .before .before .before .before .transition-count .ensures), s .pre .1,
-    s .pre .2, s .pre .3)
+    let s = c .before .before .before .before .before .before .before .before .before .before .before .before .before .before .before in (
+      s .pre .0,
+      omega (arith, c .before .before .before .before .before .before .before .before .transition-count .ensures),
+      s .pre .1,
+      s .pre .2,
+      s .pre .3,
+    )
 
 processes-again : tie.Need-processes-again Inv-loop μ-loop Inv-processes μ-processes
 unfolding processReady

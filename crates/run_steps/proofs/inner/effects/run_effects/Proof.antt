@@ -35,9 +35,13 @@ loop-holds c = (search needs, refl, refl, vars-same _ _)
 effect-items-requires : tie.Need-effect-items-requires Inv-loop μ-loop
 effect-items-requires c κs =
     let s = c .before .before .before .before .before in
-    let a = s .pre .0 .action _ (s .pre .1) in
-    (s .pre .0 .words, omega (arith, s .pre .0 .counts .actions), omega (arith, a .few), a .plain (s .pre .2) .effect (c .before .loop .e)
-    (omega arith) .expression .short)
+    let a = s .pre .0 .action _ (s .pre .1) in (
+      s .pre .0 .words,
+      omega (arith, s .pre .0 .counts .actions),
+      omega (arith, a .few),
+      a .plain (s .pre .2) .effect (c .before .loop .e)
+          (omega arith) .expression .short,
+    )
 
 evaluate-on-requires : tie.Need-evaluate-on-requires Inv-loop μ-loop
 evaluate-on-requires c κs =
@@ -82,7 +86,7 @@ returns c =
     let z = effects-stop (t k) (a k) (s k) (effectCount (t k) (a k)) (e k + 1) more (ap (λ (r : Effected). r .fits) q) ∙ q in (
       sym (ap (λ (r : Effected). r .fits) z),
       subst (λ (ss : List Slot). VarsLeft (variableCount (t k)) (o k .args .vars .now) (l .vars) ss)
-      (sym (ap (λ (r : Effected). r .vars) z)) (l .inv .3),
+          (sym (ap (λ (r : Effected). r .vars) z)) (l .inv .3),
     )
 
 effect-var-requires : tie.Need-effect-var-requires Inv-loop μ-loop
@@ -93,8 +97,14 @@ effect-var-requires c κs =
 put-requires : tie.Need-put-requires Inv-loop μ-loop
 put-requires c κs =
     let k = c .before .before .before .before .before in
-    omega (arith, c .effect-var .ensures, o k .pre .0 .counts .variables, known k, k .before .before .before .before .loop .inv .3 .words,
-    o k .pre .3)
+    omega (
+      arith,
+      c .effect-var .ensures,
+      o k .pre .0 .counts .variables,
+      known k,
+      k .before .before .before .before .loop .inv .3 .words,
+      o k .pre .3,
+    )
 
 loop-again : tie.Need-loop-again Inv-loop μ-loop
 loop-again c =

@@ -27,9 +27,15 @@ seek-processes-requires c κs =
     let r = c .before .before in
     let k = r .before .before .before in
     let s = k .before .before .before .before .before .before .before .before in
-    let moved = r .reset-by .ensures ∙ ap (λ (x : List ℕ). clocksBy (s .args .t .now) (s .args .action) x) (k .copy .ensures) in
-    (s .pre .0, s .pre .1, s .pre .2, ap length moved ∙ clocks-by-length (s .args .t .now) (s .args .clocks .now) (s .args .action)
-    ∙ s .pre .2, moved, s .pre .3)
+    let moved = r .reset-by .ensures ∙ ap (λ (x : List ℕ). clocksBy (s .args .t .now) (s .args .action) x) (k .copy .ensures) in (
+      s .pre .0,
+      s .pre .1,
+      s .pre .2,
+      ap length moved ∙ clocks-by-length (s .args .t .now) (s .args .clocks .now) (s .args .action)
+          ∙ s .pre .2,
+      moved,
+      s .pre .3,
+    )
 
 returns-2 : tie.Need-returns-2
 unfolding sharedEntries

@@ -30,9 +30,15 @@ key-with-requires c κs =
 seek-process-requires : tie.Need-seek-process-requires Inv-loop μ-loop
 seek-process-requires c κs =
     let s = c .before .before .before .before .before .before .before .before .before in
-    let k = asked _ _ _ 0 (c .key-with .ensures) (omega arith) (omega arith) in
-    (s .pre .0, s .pre .1, s .pre .2, s .pre .3, s .pre .4
-    ∙ ap (λ (a : ℕ). clocksBy (s .args .t .now) a (s .args .clocks .now)) (sym (k .action)), k .post)
+    let k = asked _ _ _ 0 (c .key-with .ensures) (omega arith) (omega arith) in (
+      s .pre .0,
+      s .pre .1,
+      s .pre .2,
+      s .pre .3,
+      s .pre .4
+          ∙ ap (λ (a : ℕ). clocksBy (s .args .t .now) a (s .args .clocks .now)) (sym (k .action)),
+      k .post,
+    )
 
 -- what was sought, by the place and the action
 module _ (c : tie.After-seek-process Inv-loop μ-loop) where

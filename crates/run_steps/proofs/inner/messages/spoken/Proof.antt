@@ -36,9 +36,13 @@ loop-holds c = (search needs, refl)
 effect-items-requires : tie.Need-effect-items-requires Inv-loop μ-loop
 effect-items-requires c κs =
     let s = c .before .before .before .before .before .before .before in
-    let a = s .pre .0 .action _ (s .pre .1) in
-    (s .pre .0 .words, omega (arith, s .pre .0 .counts .actions), omega (arith, a .few), a .send (s .pre .2) .expression
-    (c .before .loop .e) (omega arith) .short)
+    let a = s .pre .0 .action _ (s .pre .1) in (
+      s .pre .0 .words,
+      omega (arith, s .pre .0 .counts .actions),
+      omega (arith, a .few),
+      a .send (s .pre .2) .expression
+          (c .before .loop .e) (omega arith) .short,
+    )
 
 -- the values that the loop begins with are blank
 begun : (t : List ℕ) (a : ℕ) (vars : List Slot) (word : ℕ) (m : Message) → m ≡ noMessage

@@ -44,8 +44,12 @@ known : (c : tie.After-effect-var Inv-loop μ-loop)
     → c .effect-var .result < variableCount (c .before .before .before .before .before .before .before .before .before .args .t .now)
 known c =
     let s = c .before .before .before .before .before .before .before .before .before in
-    omega (arith, c .effect-var .ensures, s .pre .0 .action _ (s .pre .1) .receive (s .pre .2) .var
-    (c .before .before .before .before .loop .e) (omega arith))
+    omega (
+      arith,
+      c .effect-var .ensures,
+      s .pre .0 .action _ (s .pre .1) .receive (s .pre .2) .var
+          (c .before .before .before .before .loop .e) (omega arith),
+    )
 
 put-requires : tie.Need-put-requires Inv-loop μ-loop
 put-requires c κs =

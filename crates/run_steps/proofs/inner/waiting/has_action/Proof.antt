@@ -22,9 +22,12 @@ loop-holds c = (search needs, any-none _)
 leaves-by-requires : tie.Need-leaves-by-requires Inv-loop μ-loop
 leaves-by-requires c κs =
     let f = c .before .before .before in
-    let s = f .before .before in
-    (s .pre .0 .words, omega (arith, s .pre .0 .counts .transitions), asked _ _ _ 0 (f .key-with .ensures) (omega arith)
-    (omega arith) .post)
+    let s = f .before .before in (
+      s .pre .0 .words,
+      omega (arith, s .pre .0 .counts .transitions),
+      asked _ _ _ 0 (f .key-with .ensures) (omega arith)
+          (omega arith) .post,
+    )
 
 returns : tie.Need-returns Inv-loop μ-loop
 returns c =

@@ -32,8 +32,12 @@ is-due-requires-2 c κs =
     let p = g .before in
     let s = p .before .before .before .before .before .before .before in
     let l = invariants-of-location (s .pre .0) (s .pre .0 .transition _ (s .pre .1) .post) in
-    rw (c .invariant-count .ensures, g .invariant-group .ensures, p .post-of .ensures, p .before .key-of .ensures) (l .0, l .1, l .2,
-    s .pre .2)
+    rw (c .invariant-count .ensures, g .invariant-group .ensures, p .post-of .ensures, p .before .key-of .ensures) (
+      l .0,
+      l .1,
+      l .2,
+      s .pre .2,
+    )
 
 returns-2 : tie.Need-returns-2
 unfolding comingOf

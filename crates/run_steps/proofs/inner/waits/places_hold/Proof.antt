@@ -32,9 +32,11 @@ returns c =
 
 loop-again : tie.Need-loop-again Inv-loop μ-loop
 unfolding placeHolds
-loop-again c =
-    (omega arith, all-more _ _ (c .before .before .before .before .loop .inv .1)
-    (sym (c .before .invariants-hold .ensures) ∙ not-false _ (c .if1 .left)))
+loop-again c = (
+  omega arith,
+  all-more _ _ (c .before .before .before .before .loop .inv .1)
+      (sym (c .before .invariants-hold .ensures) ∙ not-false _ (c .if1 .left)),
+)
 
 returns-2 : tie.Need-returns-2 Inv-loop μ-loop
 returns-2 c = sym (all-done _ _ (c .before .loop .p) (omega arith) (omega arith) (c .before .loop .inv .1))

@@ -2,11 +2,10 @@ use mathlib.Core.Path.{_≡_, ap, _∙_}
 use borrow.Author.Needs.{needs}
 use borrow.Author.Tests.{eq-eqb, ne-eqb}
 use Rattle.laws.proofs.BelowLaws.{and-yes, and-no}
 use Rattle.grammar.specs.Values.{kindWord}
-use Rattle.grammar.specs.Slots.{valOf, kindIn}
-use Rattle.queues.specs.Fits.{isValue}
-use Rattle.queues.proofs.inner.fits.is_value.Statement.{statement}
-use Rattle.queues.proofs.inner.fits.is_value.Tie as tie
+use Rattle.grammar.specs.Slots.{valOf, kindIn, isValue}
+use Rattle.grammar.proofs.inner.slots.is_value.Statement.{statement}
+use Rattle.grammar.proofs.inner.slots.is_value.Tie as tie
 
 -- the word of the value's kind
 kind-found : (c : tie.After-word) → let a = c .before .before .before .args in c .word .result ≡ kindIn (valOf (a .kind) (a .payload))
