@@ -45,15 +45,15 @@ module _ {A : Type 0} (R : A → A → Type 0) where
 
   -- where an entry may stay: one more at the end, one changed, and all as they are
   module _ (stays : (x : A) → R x x) where
-    goes-on-more : (xs zs : List A) → GoesOn xs (xs ++ zs)
+    pub goes-on-more : (xs zs : List A) → GoesOn xs (xs ++ zs)
     goes-on-more [] zs = tt
     goes-on-more (x ∷ xs) zs = (stays x, goes-on-more xs zs)
 
-    goes-on-same : (xs : List A) → GoesOn xs xs
+    pub goes-on-same : (xs : List A) → GoesOn xs xs
     goes-on-same [] = tt
     goes-on-same (x ∷ xs) = (stays x, goes-on-same xs)
 
-    goes-on-changed : (f : A → A) → ((x : A) → R x (f x)) → (a : ℕ) (xs : List A) → GoesOn xs (changedAt a f xs)
+    pub goes-on-changed : (f : A → A) → ((x : A) → R x (f x)) → (a : ℕ) (xs : List A) → GoesOn xs (changedAt a f xs)
     unfolding changedAt
     goes-on-changed f becomes a [] = tt
     goes-on-changed f becomes zero (x ∷ xs) = (becomes x, goes-on-same xs)

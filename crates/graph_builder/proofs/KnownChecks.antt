@@ -26,10 +26,10 @@ abbrev pub Known : Done → Type 0
 Known d = doneNumber d ≢ 32
 
 -- ---- checks in their order
-else-known : (b : Bool) (refused rest : Done) → Known refused → Known rest → Known (unless b refused rest)
+pub else-known : (b : Bool) (refused rest : Done) → Known refused → Known rest → Known (unless b refused rest)
 else-known b refused rest h k = rung Known b refused rest h (λ e. k)
 
-then-known : (c rest : Done) → Known c → Known rest → Known (c then rest)
+pub then-known : (c rest : Done) → Known c → Known rest → Known (c then rest)
 unfolding _then_
 then-known Accepted rest h k = k
 then-known (Refused r) rest h k = h

@@ -215,7 +215,7 @@ known-done : (c : Done) (t u : List ℕ) → Known c → doneNumber (doneIf c t 
 known-done Done.Accepted t u h = h
 known-done (Done.Refused r) t u h = h
 
-known-placed : (c : Done) (t : List ℕ) (n : ℕ) (u : List ℕ) → Known c → placedNumber (placedIf c t n u .answer) ≢ 32
+pub known-placed : (c : Done) (t : List ℕ) (n : ℕ) (u : List ℕ) → Known c → placedNumber (placedIf c t n u .answer) ≢ 32
 known-placed Done.Accepted t n u h = h
 known-placed (Done.Refused r) t n u h = h
 

@@ -2,6 +2,7 @@ pub mod PartLaws
 pub mod WordLaws
 pub mod StoredLaws
 pub mod LeaveLaws
+pub mod WrittenLaws
 pub mod OverLaws
 pub mod SmallLaws
 pub mod ValueLaws
@@ -17,6 +18,9 @@ pub mod WaitingExactly
 pub mod VariableTheorems
 pub mod RunTheorems
 pub mod RunKept
+pub mod KeptLaws
+pub mod SpokenLaws
+pub mod FreshReads
 pub mod RunChains
 pub mod ClockTheorems
 pub mod GrowingCounts
@@ -28,3 +32,4 @@ pub mod BuiltRuns
 pub mod MarkedLaws
 pub mod RunListed
 pub mod Determined
+pub mod UsedLaws

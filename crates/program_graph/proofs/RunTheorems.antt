@@ -65,20 +65,24 @@ can-wait-exactly t run delta = asked (fitsTable t run) (waitFits run delta) (wai
 -- ---- refusals
 module _ (t : List ℕ) (run : ProgramGraphRun) where
   -- A refused step gives back the run.
-  pub transition-refused : (a : ℕ) (posts : List ℕ) (word : ℕ)
-      → (Ok (transitionOf t run a posts word .answer) → ⊥) → transitionOf t run a posts word .run ≡ run
-  unfolding transitionOf stepOf autonomousOf actedOf plainOf
-  transition-refused a posts word =
+  pub step-refused : (a : ℕ) (posts : List ℕ) (word : ℕ) → (Ok (stepOf t run a posts word .answer) → ⊥) → stepOf t run a posts word .run ≡ run
+  unfolding stepOf autonomousOf actedOf plainOf
+  step-refused a posts word =
       let P : Stepped → Type 0 = Returns (λ s. s .answer) (λ s. s .run) run in
-      rung P _ (refused 32 run) _ (λ n. refl)
-      (λ e. rung P _ (refused 7 run) _ (λ n. refl)
+      rung P _ (refused 7 run) _ (λ n. refl)
       (λ e. rung P _ (refused 3 run) _ (λ n. refl)
       (λ e. either-way P (eqb a epsilon) _ _
       (λ e. rung P _ (refused 8 run) _ (λ n. refl) (λ e n. absurd (n accepted-ok)))
       (λ e. rung P _ (refused 1 run) _ (λ n. refl)
       (λ e. rung P _ (refused 13 run) _ (λ n. refl)
       (λ e. rung P _ (refused 8 run) _ (λ n. refl)
-      (λ e. rung P _ (refused 26 run) _ (λ n. refl) (λ e n. absurd (n accepted-ok)))))))))
+      (λ e. rung P _ (refused 26 run) _ (λ n. refl) (λ e n. absurd (n accepted-ok))))))))
+
+  pub transition-refused : (a : ℕ) (posts : List ℕ) (word : ℕ)
+      → (Ok (transitionOf t run a posts word .answer) → ⊥) → transitionOf t run a posts word .run ≡ run
+  unfolding transitionOf
+  transition-refused a posts word =
+      rung (Returns {A = Stepped} (λ s. s .answer) (λ s. s .run) run) _ (refused 32 run) _ (λ n. refl) (λ e. step-refused a posts word)
 
   -- A refused wait gives back the run.
   pub wait-refused : (delta : ℕ) → (Ok (waitOf t run delta .answer) → ⊥) → waitOf t run delta .run ≡ run
@@ -90,30 +94,41 @@ module _ (t : List ℕ) (run : ProgramGraphRun) where
       (λ e. rung P _ (refusedWait 9 run) _ (λ n. refl) (λ e n. absurd (n accepted-ok))))
 
   -- A refused send gives back the run, and no message.
-  pub send-refused : (a : ℕ) (posts : List ℕ) (word : ℕ) → (Ok (sendOf t run a posts word .answer) → ⊥)
-      → (sendOf t run a posts word .run ≡ run) × (sendOf t run a posts word .message ≡ noMessage)
-  unfolding sendOf sentOf saidOf
-  send-refused a posts word =
+  pub sent-refused : (a : ℕ) (posts : List ℕ) (word : ℕ) → (Ok (sentOf t run a posts word .answer) → ⊥)
+      → (sentOf t run a posts word .run ≡ run) × (sentOf t run a posts word .message ≡ noMessage)
+  unfolding sentOf saidOf
+  sent-refused a posts word =
       let P : Sent → Type 0 = λ s. (Ok (s .answer) → ⊥) → (s .run ≡ run) × (s .message ≡ noMessage) in
-      rung P _ (refusedSend 32 run) _ (λ n. (refl, refl))
-      (λ e. rung P _ (refusedSend 14 run) _ (λ n. (refl, refl))
+      rung P _ (refusedSend 14 run) _ (λ n. (refl, refl))
       (λ e. rung P _ (refusedSend 7 run) _ (λ n. (refl, refl))
       (λ e. rung P _ (refusedSend 8 run) _ (λ n. (refl, refl))
       (λ e. rung P _ (refusedSend 14 run) _ (λ n. (refl, refl))
-      (λ e. rung P _ (refusedSend 26 run) _ (λ n. (refl, refl)) (λ e n. absurd (n accepted-ok)))))))
+      (λ e. rung P _ (refusedSend 26 run) _ (λ n. (refl, refl)) (λ e n. absurd (n accepted-ok))))))
+
+  pub send-refused : (a : ℕ) (posts : List ℕ) (word : ℕ) → (Ok (sendOf t run a posts word .answer) → ⊥)
+      → (sendOf t run a posts word .run ≡ run) × (sendOf t run a posts word .message ≡ noMessage)
+  unfolding sendOf
+  send-refused a posts word =
+      let P : Sent → Type 0 = λ s. (Ok (s .answer) → ⊥) → (s .run ≡ run) × (s .message ≡ noMessage) in
+      rung P _ (refusedSend 32 run) _ (λ n. (refl, refl)) (λ e. sent-refused a posts word)
 
   -- A refused receive gives back the run.
-  pub receive-refused : (a : ℕ) (posts : List ℕ) (m : Message)
-      → (Ok (receiveOf t run a posts m .answer) → ⊥) → receiveOf t run a posts m .run ≡ run
-  unfolding receiveOf receivedOf heardOf
-  receive-refused a posts m =
+  pub received-refused : (a : ℕ) (posts : List ℕ) (m : Message)
+      → (Ok (receivedOf t run a posts m .answer) → ⊥) → receivedOf t run a posts m .run ≡ run
+  unfolding receivedOf heardOf
+  received-refused a posts m =
       let P : Received → Type 0 = Returns (λ s. s .answer) (λ s. s .run) run in
-      rung P _ (refusedReceive 32 run) _ (λ n. refl)
-      (λ e. rung P _ (refusedReceive 15 run) _ (λ n. refl)
+      rung P _ (refusedReceive 15 run) _ (λ n. refl)
       (λ e. rung P _ (refusedReceive 7 run) _ (λ n. refl)
       (λ e. rung P _ (refusedReceive 8 run) _ (λ n. refl)
       (λ e. rung P _ (refusedReceive 15 run) _ (λ n. refl)
-      (λ e. rung P _ (refusedReceive 5 run) _ (λ n. refl) (λ e n. absurd (n accepted-ok)))))))
+      (λ e. rung P _ (refusedReceive 5 run) _ (λ n. refl) (λ e n. absurd (n accepted-ok))))))
+
+  pub receive-refused : (a : ℕ) (posts : List ℕ) (m : Message)
+      → (Ok (receiveOf t run a posts m .answer) → ⊥) → receiveOf t run a posts m .run ≡ run
+  unfolding receiveOf
+  receive-refused a posts m =
+      rung (Returns {A = Received} (λ s. s .answer) (λ s. s .run) run) _ (refusedReceive 32 run) _ (λ n. refl) (λ e. received-refused a posts m)
 
 -- ---- what an accepted call does
 -- a call of an action whose processes were ready moved them to their posts

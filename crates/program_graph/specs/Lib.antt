@@ -2,6 +2,8 @@ pub mod Running
 pub mod Messaging
 pub mod Transitions
 pub mod Inner
+pub mod Written
+pub mod Used
 pub mod Fits
 pub mod FreshWords
 pub mod Facts

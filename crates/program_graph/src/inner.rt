@@ -6,5 +6,6 @@ pub mod fresh_words;
 pub mod listing;
 pub mod messages;
 pub mod steps;
+pub mod used;
 pub mod waits;
 pub mod words;

@@ -4,3 +4,4 @@ pub mod ValueLaws
 pub mod FitLaws
 pub mod UsedLaws
 pub mod Theorems
+pub mod Determined

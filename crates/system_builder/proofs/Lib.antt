@@ -2,3 +2,14 @@ pub mod SystemLaws
 pub mod ActionLaws
 pub mod MessageLaws
 pub mod Theorems
+pub mod BuildTheorems
+pub mod SameActions
+pub mod NewActions
+pub mod FormedCalls
+pub mod NewMembers
+pub mod KnownCalls
+pub mod KeptTheorems
+pub mod AfterCalls
+pub mod StaysLaws
+pub mod MeaningTheorems
+pub mod Determined

@@ -1,21 +1,28 @@
 -- Building calls on a system, whatever they answer.
-use Prim.Native.Nat.{ℕ}
+use Prim.Native.Nat.{ℕ, _<_}
+use mathlib.Core.Path.{_≡_}
 use mathlib.Core.Bool.{Bool}
-use mathlib.Core.List.{List}
+use mathlib.Core.List.{List, [], _∷_}
 use Rattle.grammar.specs.Slots.{FitVal}
 use Rattle.graph_edits.specs.Edits.{LimitsFit}
 use Rattle.grammar.specs.declared.values.Val.{Val}
 use Rattle.graph_tables.specs.declared.handed.Limits.{Limits}
 use Rattle.graph_tables.specs.declared.handed.Vars.{Vars}
+use Rattle.graph_tables.specs.Sizes.{word32}
 use Rattle.graph_tables.specs.Answers.{doneNumber, placedNumber}
 use Rattle.system_tables.specs.declared.ids.Channel.{Channel}
+use Rattle.graph_builder.specs.Chains as Own
 use Rattle.system_tables.specs.declared.ids.ChannelCapacity.{ChannelCapacity}
+use Rattle.system_tables.specs.declared.ids.ChannelCapacity.the-variants.{Bounded, Unbounded, Sink}
 use Rattle.system_tables.specs.declared.ids.Message.{Message}
+use Rattle.system_tables.specs.declared.ids.Message.the-variants.{Send, Receive, ProbeEmptyQueue, ProbeFullQueue}
+use Rattle.system_tables.specs.declared.ids.Communication.{Communication}
+use Rattle.system_tables.specs.declared.ids.Communication.the-variants.{Plain, On}
 use Rattle.system_builder.specs.declared.handed.Kinds.{Kinds}
 use Rattle.system_builder.specs.Systems.{newGraphOf, newChannelOf}
 use Rattle.system_builder.specs.Graphs.{newVarOn, newClockOn, newActionOn, newProcessOn, addResetOn, addEffectOn}
 use Rattle.system_builder.specs.Graphs.{newTimedLocationOn, newInitialOn, addTransitionOn}
-use Rattle.system_builder.specs.Messages.{newSendOn, newReceiveOn, newProbeOn}
+use Rattle.system_builder.specs.Messages.{noValues, newSendOn, newReceiveOn, newProbeOn}
 
 -- a call on graph g, with what is handed to it
 pub data OnGraph : Type 0 where
@@ -57,7 +64,20 @@ after t new-graph = newGraphOf t .table
 after t (new-channel k c) = newChannelOf t k c .table
 after t (on-graph g c) = afterOn t g c
 
--- handed integers and times have 32 bits
+-- a probe is of one of two kinds
+abbrev pub IsProbe : Message → Type 0
+IsProbe Send = ⊥
+IsProbe Receive = ⊥
+IsProbe ProbeEmptyQueue = Unit {0}
+IsProbe ProbeFullQueue = Unit {0}
+
+-- the bound of a capacity has 32 bits
+abbrev pub CapacityFits : ChannelCapacity → Type 0
+CapacityFits (Bounded n) = n < word32
+CapacityFits Unbounded = Unit {0}
+CapacityFits Sink = Unit {0}
+
+-- handed integers and times have 32 bits, and a probe is one
 abbrev pub Fits : OnGraph → Type 0
 Fits (new-var v) = FitVal v
 Fits new-clock = Unit {0}
@@ -70,7 +90,12 @@ Fits (new-initial-location l) = LimitsFit l
 Fits (add-transition pre a post guarded ws l) = LimitsFit l
 Fits (new-send q m count) = Unit {0}
 Fits (new-receive q v) = Unit {0}
-Fits (new-probe k q) = Unit {0}
+Fits (new-probe k q) = IsProbe k
+
+abbrev pub CallFits : Call → Type 0
+CallFits new-graph = Unit {0}
+CallFits (new-channel k c) = CapacityFits c
+CallFits (on-graph g c) = Fits c
 
 -- the number of its answer: 0 for ok, else the refusal's
 abbrev pub answerOn : List ℕ → ℕ → OnGraph → ℕ
@@ -91,3 +116,42 @@ abbrev pub answerOf : List ℕ → Call → ℕ
 answerOf t new-graph = placedNumber (newGraphOf t .answer)
 answerOf t (new-channel k c) = placedNumber (newChannelOf t k c .answer)
 answerOf t (on-graph g c) = answerOn t g c
+
+-- ---- one call after the other
+abbrev pub afterAll : List ℕ → List Call → List ℕ
+afterAll t [] = t
+afterAll t (c ∷ calls) = afterAll (after t c) calls
+
+abbrev pub AllFit : List Call → Type 0
+AllFit [] = Unit {0}
+AllFit (c ∷ calls) = CallFits c × AllFit calls
+
+-- ---- the call that a graph makes of a call on it: a probe is, there, a send of no values
+abbrev pub ownCall : OnGraph → Own.Call
+ownCall (new-var v) = Own.new-var v
+ownCall new-clock = Own.new-clock
+ownCall new-action = Own.new-action
+ownCall (new-process l) = Own.new-process l
+ownCall (add-reset a clock) = Own.add-reset a clock
+ownCall (add-effect a v ws) = Own.add-effect a v ws
+ownCall (new-timed-location l) = Own.new-timed-location l
+ownCall (new-initial-location l) = Own.new-initial-location l
+ownCall (add-transition pre a post guarded ws l) = Own.add-transition pre a post guarded ws l
+ownCall (new-send q m count) = Own.new-send m count
+ownCall (new-receive q v) = Own.new-receive v
+ownCall (new-probe k q) = Own.new-send noValues 0
+
+-- the action that a call adds has this communication
+abbrev pub Tells : OnGraph → Communication → Type 0
+Tells (new-var v) c = ⊥
+Tells new-clock c = ⊥
+Tells new-action c = c ≡ Plain
+Tells (new-process l) c = ⊥
+Tells (add-reset a clock) c = ⊥
+Tells (add-effect a v ws) c = ⊥
+Tells (new-timed-location l) c = ⊥
+Tells (new-initial-location l) c = ⊥
+Tells (add-transition pre a post guarded ws l) c = ⊥
+Tells (new-send q m count) c = c ≡ On Send q
+Tells (new-receive q v) c = c ≡ On Receive q
+Tells (new-probe k q) c = c ≡ On k q

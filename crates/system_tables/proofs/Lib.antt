@@ -7,3 +7,4 @@ pub mod FrameLaws
 pub mod KeptLaws
 pub mod CarriedLaws
 pub mod CommunicationLaws
+pub mod Determined

@@ -9,7 +9,7 @@ ghost use Rattle.run_steps.specs.Listing.{seek};
 ghost use Rattle.program_graph.specs.Transitions.{listed, listedBy, entryOrEnd};
 ghost use Rattle.program_graph.specs.Inner.{runAt, RunOf};
 
-fn entry_or_end(sought: Sought) -> Listed
+pub fn entry_or_end(sought: Sought) -> Listed
     ensures { λ r. ⌜ r ≡ entryOrEnd sought ⌝ }
 {
     match sought {

@@ -15,8 +15,8 @@ ghost use Rattle.graph_tables.specs.Sizes.{clockRoom};
 ghost use Rattle.graph_tables.specs.RunWords.{runProcesses, runClocks, placesIn, clocksIn};
 ghost use Rattle.graph_tables.specs.Sound.{Sound};
 ghost use Rattle.run_steps.specs.Steps.{shiftedBelow, placeHolds};
-ghost use Rattle.program_graph.specs.Running.{waitFits, waitHolds, waitOpen, waitsOn, waitedOf};
-ghost use Rattle.program_graph.specs.Inner.{runAt, RunOf, DidWait};
+ghost use Rattle.program_graph.specs.Running.{waitFits, waitHolds, waitOpen, waitsOn, later, waitedOf};
+ghost use Rattle.program_graph.specs.Inner.{runAt, RunOf, Leaves, DidWait};
 
 // No clock passes the last time.
 pub fn wait_fits(t: &[u64], r: &[u64], delta: u32) -> bool
@@ -73,6 +73,15 @@ pub fn wait_on(t: &[u64], r: &mut [u64], delta: u32) -> Done
     }
     steps::set_times(r, &times);
     Done::Accepted
+}
+
+// The clocks moved by a wait that fits: no other word is written.
+pub fn advance(t: &[u64], r: &mut [u64], delta: u32)
+    requires { ⌜ Sound (now t) × RunOf (now t) (now r) × (waitFits (runAt (now r)) delta ≡ true) ⌝ }
+    ensures { λ _. ⌜ Leaves (now (t .entry)) (now (r .entry)) (later (runAt (now (r .entry))) delta) (now (r .exit)) ⌝ }
+{
+    let n = r[runs::TIMERS] as usize;
+    waits::shift(&mut r[runs::CLOCKS..runs::WORDS], n, delta)
 }
 
 pub fn can_wait_on(t: &[u64], r: &[u64], delta: u32) -> bool

@@ -102,7 +102,11 @@ fn get_times(r: &[u64]) -> [u32; sizes::CLOCKS]
 }
 
 // The first n variables as their words say.
-fn vars_over(from: [Slot; sizes::VARIABLES], ws: &[u64], n: usize) -> [Slot; sizes::VARIABLES]
+pub(crate) fn vars_over(
+    from: [Slot; sizes::VARIABLES],
+    ws: &[u64],
+    n: usize,
+) -> [Slot; sizes::VARIABLES]
     requires { ⌜ (length (now ws) ≡ 2 * variableRoom) × (n ≤ variableRoom) ⌝ }
     ensures { λ x. ⌜ x ≡ overBelow from (slotsOf (now (ws .entry))) n ⌝ }
 {
