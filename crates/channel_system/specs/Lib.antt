@@ -1,0 +1,15 @@
+pub mod Channels
+pub mod Steps
+pub mod Facts
+pub mod Waits
+pub mod Listing
+pub mod Instances
+pub mod Readers
+pub mod Asked
+pub mod Taken
+pub mod Rows
+pub mod Waiting
+pub mod Marked
+pub mod Told
+pub mod Chains
+pub mod Demand
