@@ -1,33 +1,20 @@
 // Lines on an expression alone: its kind, its draws, its value.
 use crate::answers;
-use crate::lists;
 use grammar::draws;
 use grammar::evaluation;
 use grammar::typing;
 use grammar::values::Slot;
+use graph_text::lists::ITEMS;
 use text::items;
 use text::items::Expression;
+use text::lists::Kinds;
+use text::lists::read_kinds;
 use text::numbers;
 use text::numbers::Number;
 use text::tokens;
-use text::values;
 
 // The most variables that an expression is typed or evaluated over.
 const VARIABLES: usize = 16;
-
-// The kinds of a token in the lent words; whether all its letters are kinds.
-fn read_kinds(token: &[u8], words: &mut [u64]) -> bool {
-    if words.len() < token.len() {
-        return false;
-    }
-    for k in 0..token.len() {
-        let Number::Is(w) = values::kind(token[k]) else {
-            return false;
-        };
-        words[k] = w;
-    }
-    true
-}
 
 // KINDS, for an expression
 fn kind_over(line: &[u8], at: usize, expression: &[u64], out: &mut [u8]) -> usize {
@@ -35,25 +22,15 @@ fn kind_over(line: &[u8], at: usize, expression: &[u64], out: &mut [u8]) -> usiz
         return text::answers::bad(out);
     }
     let mut kinds = [0u64; VARIABLES];
-    let token = tokens::token(line, at);
-    if tokens::is(token, b"-") {
-        return answers::typed(out, typing::type_of(expression, items::part(&kinds, 0)));
-    }
-    if token.len() == 0 {
+    let Kinds::Are(count) = read_kinds(tokens::token(line, at), &mut kinds) else {
         return text::answers::bad(out);
-    }
-    if !read_kinds(token, &mut kinds) {
-        return text::answers::bad(out);
-    }
-    answers::typed(
-        out,
-        typing::type_of(expression, items::part(&kinds, token.len())),
-    )
+    };
+    answers::typed(out, typing::type_of(expression, items::part(&kinds, count)))
 }
 
 // type EXPR KINDS
 pub fn type_of(line: &[u8], at: usize, out: &mut [u8]) -> usize {
-    let mut words = [0u64; lists::ITEMS];
+    let mut words = [0u64; ITEMS];
     let Expression::Is { count, next } = items::read_expression(line, at, &mut words) else {
         return text::answers::bad(out);
     };
@@ -62,7 +39,7 @@ pub fn type_of(line: &[u8], at: usize, out: &mut [u8]) -> usize {
 
 // draws EXPR
 pub fn draws_of(line: &[u8], at: usize, out: &mut [u8]) -> usize {
-    let mut words = [0u64; lists::ITEMS];
+    let mut words = [0u64; ITEMS];
     let Expression::Is { count, next } = items::read_expression(line, at, &mut words) else {
         return text::answers::bad(out);
     };
@@ -70,7 +47,7 @@ pub fn draws_of(line: &[u8], at: usize, out: &mut [u8]) -> usize {
         return text::answers::bad(out);
     }
     let n = draws::count_draws(items::part(&words, count));
-    answers::ok_number(out, n as u64)
+    text::answers::ok_number(out, n as u64)
 }
 
 // W, for an expression over values
@@ -108,7 +85,7 @@ fn value_of(line: &[u8], at: usize, expression: &[u64], out: &mut [u8]) -> usize
 
 // eval EXPR ( VALUE.. ) W
 pub fn evaluate(line: &[u8], at: usize, out: &mut [u8]) -> usize {
-    let mut words = [0u64; lists::ITEMS];
+    let mut words = [0u64; ITEMS];
     let Expression::Is { count, next } = items::read_expression(line, at, &mut words) else {
         return text::answers::bad(out);
     };

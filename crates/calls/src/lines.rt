@@ -1,14 +1,16 @@
 // Every line of standard input is answered.
-use crate::answers;
-use crate::building;
 use crate::expressions;
-use crate::running;
-use crate::running::Answered;
 use crate::table;
+use building_lines::graph;
+use building_lines::system;
 use graph_builder;
+use graph_text::answers::done;
 use libc::STDOUT_FILENO;
 use program_graph::inner::fresh;
 use program_graph::record::ProgramGraphRun;
+use running_lines::running;
+use running_lines::running::Answered;
+use system_builder;
 use text::lines;
 use text::ranges;
 use text::tokens;
@@ -26,7 +28,7 @@ fn on_graph(
 ) -> Answered {
     if !tokens::is(tokens::token(line, at), b"new") {
         return Answered {
-            length: building::answer(line, at, t, out),
+            length: graph::answer(line, at, t, out),
             run,
         };
     }
@@ -34,13 +36,24 @@ fn on_graph(
         return running::bad(run, out);
     }
     Answered {
-        length: answers::done(out, graph_builder::new(t)),
+        length: done(out, graph_builder::new(t)),
         run: fresh::no_run(),
     }
 }
 
-// Lines that leave the run as it is.
-fn on_words(line: &[u8], name: &[u8], at: usize, t: &mut [u64], out: &mut [u8]) -> usize {
+// Lines on the system.
+fn on_system(line: &[u8], at: usize, s: &mut [u64], out: &mut [u8]) -> usize {
+    if !tokens::is(tokens::token(line, at), b"new") {
+        return system::answer(line, at, s, out);
+    }
+    if !tokens::ended(line, tokens::next(line, at)) {
+        return text::answers::bad(out);
+    }
+    done(out, system_builder::new(s))
+}
+
+// Lines on a range or an expression alone.
+fn on_values(line: &[u8], name: &[u8], at: usize, out: &mut [u8]) -> usize {
     if tokens::is(name, b"range") {
         return ranges::answer(line, at, out);
     }
@@ -53,16 +66,37 @@ fn on_words(line: &[u8], name: &[u8], at: usize, t: &mut [u64], out: &mut [u8]) 
     if tokens::is(name, b"eval") {
         return expressions::evaluate(line, at, out);
     }
-    if tokens::is(name, b"poke") {
-        return table::poke(line, at, t, out);
-    }
-    if tokens::is(name, b"sum") {
-        return table::sum(line, at, t, out);
-    }
     text::answers::bad(out)
 }
 
-fn answer(line: &[u8], t: &mut [u64], run: ProgramGraphRun, out: &mut [u8]) -> Answered {
+// Lines that leave the run as it is.
+fn on_words(
+    line: &[u8],
+    name: &[u8],
+    at: usize,
+    t: &mut [u64],
+    s: &mut [u64],
+    out: &mut [u8],
+) -> usize {
+    if tokens::is(name, b"s") {
+        return on_system(line, at, s, out);
+    }
+    if tokens::is(name, b"poke") {
+        return table::poke(line, at, t, s, out);
+    }
+    if tokens::is(name, b"sum") {
+        return table::sum(line, at, t, s, out);
+    }
+    on_values(line, name, at, out)
+}
+
+fn answer(
+    line: &[u8],
+    t: &mut [u64],
+    s: &mut [u64],
+    run: ProgramGraphRun,
+    out: &mut [u8],
+) -> Answered {
     let name = tokens::token(line, 0);
     let at = tokens::next(line, 0);
     if tokens::is(name, b"g") {
@@ -72,27 +106,33 @@ fn answer(line: &[u8], t: &mut [u64], run: ProgramGraphRun, out: &mut [u8]) -> A
         return running::answer(line, at, t, run, out);
     }
     Answered {
-        length: on_words(line, name, at, t, out),
+        length: on_words(line, name, at, t, s, out),
         run,
     }
 }
 
 // Writes the answer to a line, and gives the run after it.
-fn tell(line: &[u8], length: usize, t: &mut [u64], run: ProgramGraphRun) -> ProgramGraphRun {
+fn tell(
+    line: &[u8],
+    length: usize,
+    t: &mut [u64],
+    s: &mut [u64],
+    run: ProgramGraphRun,
+) -> ProgramGraphRun {
     let mut out = [0u8; ANSWER];
     if lines::LONGEST < length {
         let count = text::answers::bad(&mut out);
         io::write_all(STDOUT_FILENO, tokens::part(&out, count));
         return run;
     }
-    let answered = answer(tokens::part(line, length), t, run, &mut out);
+    let answered = answer(tokens::part(line, length), t, s, run, &mut out);
     io::write_all(STDOUT_FILENO, tokens::part(&out, answered.length));
     let next = answered.run;
     next
 }
 
 // The turns are counted down, as in reading.
-pub fn answer_all(line: &mut [u8], bytes: &mut [u8], t: &mut [u64]) {
+pub fn answer_all(line: &mut [u8], bytes: &mut [u8], t: &mut [u64], s: &mut [u64]) {
     let mut run = fresh::no_run();
     let mut reader = lines::start();
     let mut turns = u64::MAX;
@@ -101,7 +141,7 @@ pub fn answer_all(line: &mut [u8], bytes: &mut [u8], t: &mut [u64]) {
         if !reader.whole {
             return;
         }
-        run = tell(line, reader.length, t, run);
+        run = tell(line, reader.length, t, s, run);
         turns -= 1;
     }
 }

@@ -1,5 +1,4 @@
-// Lines on the words of the table.
-use crate::answers;
+// Lines on the words of the graph's table and of the system's.
 use text::numbers;
 use text::numbers::Number;
 use text::numbers::Small;
@@ -10,26 +9,35 @@ fn write(t: &mut [u64], at: usize, word: u64, out: &mut [u8]) -> usize {
         return text::answers::bad(out);
     }
     t[at] = word;
-    answers::ok(out)
+    text::answers::ok(out)
 }
 
-// poke g N W
-pub fn poke(line: &[u8], at: usize, t: &mut [u64], out: &mut [u8]) -> usize {
-    if !tokens::is(tokens::token(line, at), b"g") {
+// N W
+fn poke_at(line: &[u8], at: usize, t: &mut [u64], out: &mut [u8]) -> usize {
+    let Small::Is(n) = numbers::read_small(tokens::token(line, at)) else {
         return text::answers::bad(out);
-    }
+    };
     let second = tokens::next(line, at);
-    let Small::Is(n) = numbers::read_small(tokens::token(line, second)) else {
+    let Number::Is(word) = numbers::read_wide(tokens::token(line, second)) else {
         return text::answers::bad(out);
     };
-    let third = tokens::next(line, second);
-    let Number::Is(word) = numbers::read_wide(tokens::token(line, third)) else {
-        return text::answers::bad(out);
-    };
-    if !tokens::ended(line, tokens::next(line, third)) {
+    if !tokens::ended(line, tokens::next(line, second)) {
         return text::answers::bad(out);
     }
     write(t, n as usize, word, out)
+}
+
+// poke g N W, poke s N W
+pub fn poke(line: &[u8], at: usize, t: &mut [u64], s: &mut [u64], out: &mut [u8]) -> usize {
+    let name = tokens::token(line, at);
+    let next = tokens::next(line, at);
+    if tokens::is(name, b"g") {
+        return poke_at(line, next, t, out);
+    }
+    if tokens::is(name, b"s") {
+        return poke_at(line, next, s, out);
+    }
+    text::answers::bad(out)
 }
 
 // Each word times its place counted from 1, modulo 2^64: the sum of the sums of the last word, the last two, and so on.
@@ -45,13 +53,17 @@ fn weighed(t: &[u64]) -> u64 {
     sum
 }
 
-// sum g
-pub fn sum(line: &[u8], at: usize, t: &[u64], out: &mut [u8]) -> usize {
-    if !tokens::is(tokens::token(line, at), b"g") {
-        return text::answers::bad(out);
-    }
+// sum g, sum s
+pub fn sum(line: &[u8], at: usize, t: &[u64], s: &[u64], out: &mut [u8]) -> usize {
     if !tokens::ended(line, tokens::next(line, at)) {
         return text::answers::bad(out);
     }
-    answers::ok_number(out, weighed(t))
+    let name = tokens::token(line, at);
+    if tokens::is(name, b"g") {
+        return text::answers::ok_number(out, weighed(t));
+    }
+    if tokens::is(name, b"s") {
+        return text::answers::ok_number(out, weighed(s));
+    }
+    text::answers::bad(out)
 }

@@ -1,5 +1,6 @@
-// Lists of tokens of one kind, up to a token that is none of it.
+// Lists of tokens of one kind, up to a token that is none of it; and kinds, a token with a letter for each.
 use crate::numbers;
+use crate::numbers::Number;
 use crate::numbers::Small;
 use crate::tokens;
 use crate::values;
@@ -73,4 +74,38 @@ pub fn part(numbers: &[u32], n: usize) -> &[u32] {
         return numbers;
     }
     &numbers[0..n]
+}
+
+// How many kinds there are.
+pub enum Kinds {
+    Are(usize),
+    Bad,
+}
+
+// The words of a token's letters in the lent ones; whether each is a kind.
+fn read_letters(token: &[u8], words: &mut [u64]) -> bool {
+    if words.len() < token.len() {
+        return false;
+    }
+    for k in 0..token.len() {
+        let Number::Is(w) = values::kind(token[k]) else {
+            return false;
+        };
+        words[k] = w;
+    }
+    true
+}
+
+// The words of a token's kinds in the lent ones: it has as many at most. `-` stands for none.
+pub fn read_kinds(token: &[u8], words: &mut [u64]) -> Kinds {
+    if tokens::is(token, b"-") {
+        return Kinds::Are(0);
+    }
+    if token.len() == 0 {
+        return Kinds::Bad;
+    }
+    if !read_letters(token, words) {
+        return Kinds::Bad;
+    }
+    Kinds::Are(token.len())
 }

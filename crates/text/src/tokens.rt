@@ -67,7 +67,7 @@ pub fn is(token: &[u8], word: &[u8]) -> bool
 }
 
 // The first byte of a token; 0 where it is empty.
-pub(crate) fn first(token: &[u8]) -> u8
+pub fn first(token: &[u8]) -> u8
     ensures { λ r. ⌜ r ≡ getD (now (token .entry)) 0 0 ⌝ }
 {
     if token.len() == 0 {
@@ -77,7 +77,7 @@ pub(crate) fn first(token: &[u8]) -> u8
 }
 
 // What follows the first byte.
-pub(crate) fn tail(token: &[u8]) -> &[u8]
+pub fn tail(token: &[u8]) -> &[u8]
     ensures { λ r. ⌜ now r ≡ drop 1 (now (token .entry)) ⌝ }
 {
     if token.len() == 0 {

@@ -109,7 +109,7 @@ impl<'a> Tokens<'a> {
         self.tokens.is_empty()
     }
 
-    fn comes(&self, token: &[u8]) -> bool {
+    pub(crate) fn comes(&self, token: &[u8]) -> bool {
         self.tokens.first() == Some(&token)
     }
 

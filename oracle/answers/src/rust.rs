@@ -93,10 +93,7 @@ impl Rust {
     }
 
     pub fn kind(&self, var: u32) -> Answer {
-        match self.builder.open_var_type(var_of(var)) {
-            Ok(kind) => Answer::Kind(kind),
-            Err(error) => Answer::Refused(number_of(error)),
-        }
+        kind_in(&self.builder, var)
     }
 
     pub fn build(&mut self) -> Result<&ProgramGraph, String> {
@@ -228,6 +225,14 @@ pub(crate) fn parts(graph: &Graph) -> Vec<Building> {
         })
     }));
     parts
+}
+
+/// The kind of a variable, by the builder of its graph.
+pub(crate) fn kind_in(graph: &ProgramGraphBuilder, var: u32) -> Answer {
+    match graph.open_var_type(var_of(var)) {
+        Ok(kind) => Answer::Kind(kind),
+        Err(error) => Answer::Refused(number_of(error)),
+    }
 }
 
 pub(crate) fn added(

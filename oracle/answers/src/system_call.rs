@@ -12,6 +12,8 @@ pub enum SystemCall {
     Channel(Vec<Type>, Capacity),
     /// On the graph of this number.
     Building(u32, SystemBuilding),
+    /// Of a graph and a variable.
+    Kind(u32, u32),
     Capacity(u32),
     Build,
     NewState,
@@ -70,8 +72,16 @@ impl Tokens<'_> {
             b"channel" => SystemCall::Channel(kinds(self.next()?)?, capacity(self.next()?)?),
             b"capacity" => SystemCall::Capacity(self.number()?),
             b"build" => SystemCall::Build,
-            graph => SystemCall::Building(number(graph)?, self.system_building()?),
+            graph => self.graph_of_system(number(graph)?)?,
         })
+    }
+
+    fn graph_of_system(&mut self, graph: u32) -> Option<SystemCall> {
+        if self.comes(b"kind") {
+            self.next();
+            return Some(SystemCall::Kind(graph, self.number()?));
+        }
+        Some(SystemCall::Building(graph, self.system_building()?))
     }
 
     fn system_building(&mut self) -> Option<SystemBuilding> {

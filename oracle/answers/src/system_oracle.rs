@@ -47,6 +47,7 @@ impl Systems {
             SystemCall::Graph
             | SystemCall::Channel(..)
             | SystemCall::Building(..)
+            | SystemCall::Kind(..)
             | SystemCall::Build => self.on_table(call),
             SystemCall::Capacity(_) | SystemCall::NewState => self.on_built(call),
             SystemCall::Running(running) => self.running(running),
@@ -100,7 +101,7 @@ impl Systems {
         self.rust = Some(rust);
     }
 
-    /// A call that adds, or `build`.
+    /// A call that adds, `kind`, or `build`.
     fn on_table(&mut self, call: &SystemCall) -> Replied {
         let Some((system, mut rust)) = self.take()? else {
             return by_rules(Answer::Refused(32));
@@ -117,6 +118,7 @@ impl Systems {
             SystemCall::Building(graph, building) => {
                 self.building(&system, &mut rust, *graph, building)
             }
+            SystemCall::Kind(graph, var) => (kind(&system, &mut rust, *graph, *var), false),
             _ => (build(&system, &mut rust), false),
         };
         if changed {
@@ -284,6 +286,17 @@ impl Default for Systems {
 
 fn moves(running: &SystemRunning) -> bool {
     matches!(running, SystemRunning::Step(_) | SystemRunning::Wait(_))
+}
+
+/// The graph's own call is the Rust's; 17 is the test code's.
+fn kind(system: &System, rust: &mut RustSystem, graph: u32, var: u32) -> Replied {
+    let theirs = rust.kind(graph, var);
+    let Some(member) = system.members.get(graph as usize) else {
+        return by_test_code(Answer::Refused(17), theirs);
+    };
+    let val = member.graph.vars.get(var as usize);
+    let ours = val.map_or(Answer::Refused(4), |val| Answer::Kind(val.r#type()));
+    both(ours, &theirs)
 }
 
 fn build(system: &System, rust: &mut RustSystem) -> Replied {

@@ -162,6 +162,13 @@ impl RustSystem {
         }
     }
 
+    pub fn kind(&mut self, graph: u32, var: u32) -> Answer {
+        let kind = self
+            .builder
+            .on_graph(pg(graph), |graph| rust::kind_in(graph, var));
+        kind.unwrap_or_else(refused)
+    }
+
     pub fn build(&mut self) -> Result<&ChannelSystem, String> {
         if self.built.is_none() {
             let built = guarded(|| self.builder.build()).map_err(|outcome| outcome.to_string())?;

@@ -14,16 +14,16 @@ use compare::maker::Line;
 use compare::programs::{Program, Talk, unmarked};
 use compare::sample::{Answered, chosen};
 use compare::script::script;
-use compare::system_script::system_script;
+use compare::system_script::{building_alone, system_script};
 use compare::table::{Table, call_of};
 
-const USAGE: &str = "compare --port CMD [--oracle CMD] --seeds FROM..TO [--systems] [--sums exact] [--batch N] [--quiet]
+const USAGE: &str = "compare --port CMD [--oracle CMD] --seeds FROM..TO [--systems [--building]] [--sums exact] [--batch N] [--quiet]
 compare --oracle-alone [--oracle CMD] --seeds FROM..TO [--systems] [--batch N] [--quiet]
-compare --print --seed S [--systems] [--oracle CMD]
-compare --fixed N --seeds FROM..TO [--systems] [--out FOLDER] [--oracle CMD] [--sums exact]
+compare --print --seed S [--systems [--building]] [--oracle CMD]
+compare --fixed N --seeds FROM..TO [--systems [--building]] [--out FOLDER] [--oracle CMD] [--sums exact]
 compare --random-bytes N --seed S --port CMD [--oracle CMD]
 
-With --systems the scripts are about systems, else about graphs. --oracle-alone puts the oracle beside itself. CMD is a command and its options, separated by blanks. Without --oracle it is the `oracle` beside this program.";
+With --systems the scripts are about systems, else about graphs; with --building they build systems and do not run them. --oracle-alone puts the oracle beside itself. CMD is a command and its options, separated by blanks. Without --oracle it is the `oracle` beside this program.";
 
 /// Lines that are compared by their change, if at all.
 const SUMS: [&[u8]; 3] = [b"sum g", b"sum s", b"sum t"];
@@ -57,6 +57,7 @@ struct Options {
     out: Option<PathBuf>,
     random_bytes: Option<usize>,
     systems: bool,
+    building: bool,
     oracle_alone: bool,
 }
 
@@ -92,6 +93,7 @@ impl Options {
                 "--print" => options.print = true,
                 "--quiet" => options.quiet = true,
                 "--systems" => options.systems = true,
+                "--building" => options.building = true,
                 "--oracle-alone" => options.oracle_alone = true,
                 "--fixed" => options.fixed = Some(number(&next()?)?),
                 "--out" => options.out = Some(PathBuf::from(next()?)),
@@ -133,9 +135,10 @@ impl Options {
     /// Script of a seed, made in conversation with a fresh oracle, so that it hangs on nothing but the seed.
     fn made(&self, oracle: &Program, seed: u64) -> Result<Vec<Line>, String> {
         let mut talk = Talk::new(&oracle.with(&["--marks"]))?;
-        Ok(match self.systems {
-            true => system_script(seed, &mut talk),
-            false => script(seed, &mut talk),
+        Ok(match (self.systems, self.building) {
+            (true, true) => building_alone(system_script(seed, &mut talk)),
+            (true, false) => system_script(seed, &mut talk),
+            (false, _) => script(seed, &mut talk),
         })
     }
 

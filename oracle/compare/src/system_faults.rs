@@ -23,10 +23,11 @@ impl SystemMaker<'_> {
     pub fn fault(&mut self) {
         match self.maker.chance.below(12) {
             0..=1 => self.odd_channel(),
-            2 => {
+            2 if self.maker.chance.percent(60) => {
                 let q = self.maybe_channel();
                 self.maker.say(format!("s capacity {q}"));
             }
+            2 => self.kind(),
             3..=7 => self.odd_message(),
             8 => {
                 let g = self.odd_graph();
@@ -43,6 +44,16 @@ impl SystemMaker<'_> {
             }
             _ => self.odd_part(),
         }
+    }
+
+    /// The kind of a variable that may be there, of a graph that mostly is.
+    fn kind(&mut self) {
+        let g = match self.maker.chance.percent(80) {
+            true => self.maker.chance.below(self.system.graphs.len().max(1)) as u32,
+            false => self.odd_graph(),
+        };
+        let var = self.maker.chance.below(6);
+        self.maker.say(format!("s {g} kind {var}"));
     }
 
     /// Any line that builds.

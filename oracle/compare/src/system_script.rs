@@ -39,6 +39,23 @@ pub fn system_script(seed: u64, teller: &mut dyn Teller) -> Vec<Line> {
     script.maker.lines
 }
 
+/// What a script says of its table alone. Lines on the words of a state are left out. Any other line on a state becomes a
+/// `s build`, which asks for a well-formed table as it does; several in a row become one.
+pub fn building_alone(script: Vec<Line>) -> Vec<Line> {
+    let mut lines: Vec<Line> = vec![];
+    for line in script {
+        if line.starts_with(b"poke t ") || line == b"sum t" {
+            continue;
+        }
+        if !line.starts_with(b"t ") {
+            lines.push(line);
+        } else if lines.last().is_none_or(|last| last != b"s build") {
+            lines.push(b"s build".to_vec());
+        }
+    }
+    lines
+}
+
 impl SystemMaker<'_> {
     fn some_system(&mut self) {
         let graphs = *self.maker.chance.pick(&[1, 1, 2, 2, 2, 3, 3, 4, 5, 8]);
@@ -292,5 +309,17 @@ mod tests {
             let lines = system_script(seed, &mut teller);
             assert_eq!(lines.last(), teller.lines.last());
         }
+    }
+
+    #[test]
+    fn lines_on_a_state_are_left_out_or_become_one_build() {
+        let lines = |text: &str| -> Vec<Line> {
+            text.split('|')
+                .map(|line| line.as_bytes().to_vec())
+                .collect()
+        };
+        let script = "s new|t new|poke t 0 1|t wait 1|sum t|poke s 0 9|t show|s 0 clock|t|sum s";
+        let built = "s new|s build|poke s 0 9|s build|s 0 clock|t|sum s";
+        assert_eq!(building_alone(lines(script)), lines(built));
     }
 }

@@ -6,7 +6,7 @@ use std::fmt::Write;
 use crate::system_model::queue_row;
 
 /// The calls of the channel layer, in the order of the table.
-pub const SYSTEM_CALLS: [&str; 35] = [
+pub const SYSTEM_CALLS: [&str; 36] = [
     "s new",
     "s graph",
     "s channel",
@@ -26,6 +26,7 @@ pub const SYSTEM_CALLS: [&str; 35] = [
     "s initial",
     "s transition",
     "s auto",
+    "s kind",
     "t new",
     "t step",
     "t wait",

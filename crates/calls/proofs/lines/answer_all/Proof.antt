@@ -5,10 +5,11 @@ use Rattle.calls.proofs.lines.answer_all.Statement.{statement}
 use Rattle.calls.proofs.lines.answer_all.Tie as tie
 
 abbrev Inv-loop : tie.InvT-loop
-Inv-loop line₀ bytes₀ t₀ run₀ reader₀ turns₀ line bytes t run reader turns = (length line ≡ length line₀) × ((length bytes ≡ length bytes₀) × (length t ≡ length t₀))
+Inv-loop line₀ bytes₀ t₀ s₀ run₀ reader₀ turns₀ line bytes t s run reader turns =
+    (length line ≡ length line₀) × ((length bytes ≡ length bytes₀) × ((length t ≡ length t₀) × (length s ≡ length s₀)))
 
 abbrev μ-loop : tie.MeasureT-loop
-μ-loop line₀ bytes₀ t₀ run₀ reader₀ turns₀ line bytes t run reader turns = turns
+μ-loop line₀ bytes₀ t₀ s₀ run₀ reader₀ turns₀ line bytes t s run reader turns = turns
 
 pub answer-all-spec : {M : Type 1} → statement M
 answer-all-spec =
@@ -24,7 +25,9 @@ answer-all-spec =
     (λ c. search needs)
     (λ c. search needs)
     (λ c. search needs)
+    (λ c. search needs)
     (λ c κs. search needs)
+    (λ c. search needs)
     (λ c. search needs)
     (λ c. search needs)
     (λ c. search needs)

@@ -1,8 +1,6 @@
-// Lines that make a send or a receive.
-use crate::answers;
+// Messages as lines have them: the expressions of a send, the variables of a receive. A list may be longer than a call takes:
+// its count is handed over, and what has no room is left out.
 use crate::lists;
-use graph_builder;
-use graph_tables::answers::Placed;
 use graph_tables::handed::Vars;
 use graph_tables::ids::Var;
 use text::items;
@@ -13,14 +11,17 @@ use text::tokens;
 // The most variables of a line.
 const VARIABLES: usize = 6;
 
+// The most expressions of a line.
+const EXPRESSIONS: usize = 6;
+
 // Room for the items of every expression.
-const WORDS: usize = lists::EXPRESSIONS * lists::ITEMS;
+pub const WORDS: usize = EXPRESSIONS * lists::ITEMS;
 
 // Whether there are expressions alone, how many, and how many items each has.
-struct Sizes {
-    whole: bool,
-    count: usize,
-    sizes: [usize; lists::EXPRESSIONS],
+pub struct Sizes {
+    pub whole: bool,
+    pub count: usize,
+    pub sizes: [usize; EXPRESSIONS],
 }
 
 // Expression k has its own part of the words.
@@ -34,10 +35,10 @@ fn read_nth(line: &[u8], at: usize, words: &mut [u64], k: usize) -> Expression {
 }
 
 // EXPR.. to the line's end.
-fn read_expressions(line: &[u8], at: usize, words: &mut [u64]) -> Sizes {
-    let mut sizes = [0usize; lists::EXPRESSIONS];
+pub fn read_expressions(line: &[u8], at: usize, words: &mut [u64]) -> Sizes {
+    let mut sizes = [0usize; EXPRESSIONS];
     let mut here = at;
-    for k in 0usize..lists::EXPRESSIONS {
+    for k in 0usize..EXPRESSIONS {
         if tokens::ended(line, here) {
             return Sizes {
                 whole: true,
@@ -57,13 +58,13 @@ fn read_expressions(line: &[u8], at: usize, words: &mut [u64]) -> Sizes {
     }
     Sizes {
         whole: tokens::ended(line, here),
-        count: lists::EXPRESSIONS,
+        count: EXPRESSIONS,
         sizes,
     }
 }
 
 // The first words of expression k.
-fn nth(words: &[u64], k: usize, size: usize) -> &[u64] {
+pub fn nth(words: &[u64], k: usize, size: usize) -> &[u64] {
     if words.len() / lists::ITEMS <= k {
         return &words[0..0];
     }
@@ -75,26 +76,7 @@ fn nth(words: &[u64], k: usize, size: usize) -> &[u64] {
     &words[from..end]
 }
 
-fn new_send(t: &mut [u64], words: &[u64], read: Sizes) -> Placed {
-    let sizes = read.sizes;
-    let w = nth(words, 0, sizes[0]);
-    let x = nth(words, 1, sizes[1]);
-    let y = nth(words, 2, sizes[2]);
-    let z = nth(words, 3, sizes[3]);
-    graph_builder::new_send(t, read.count, w, x, y, z)
-}
-
-// g send EXPR..
-pub fn send(line: &[u8], at: usize, t: &mut [u64], out: &mut [u8]) -> usize {
-    let mut words = [0u64; WORDS];
-    let read = read_expressions(line, at, &mut words);
-    if !read.whole {
-        return text::answers::bad(out);
-    }
-    answers::placed(out, new_send(t, &words, read))
-}
-
-fn vars(read: Numbers) -> Vars {
+fn first_vars(read: Numbers) -> Vars {
     let numbers = read.numbers;
     Vars {
         vars: [
@@ -107,14 +89,19 @@ fn vars(read: Numbers) -> Vars {
     }
 }
 
-// g receive V..
-pub fn receive(line: &[u8], at: usize, t: &mut [u64], out: &mut [u8]) -> usize {
+// Whether there are variables alone, and which. (An enum cannot hold the array that they are in.)
+pub struct Received {
+    pub whole: bool,
+    pub vars: Vars,
+}
+
+// V.. to the line's end.
+pub fn read_vars(line: &[u8], at: usize) -> Received {
     let read = text::lists::read_numbers(line, at);
-    if !tokens::ended(line, read.next) {
-        return text::answers::bad(out);
+    let few = read.count <= VARIABLES;
+    let whole = few && tokens::ended(line, read.next);
+    Received {
+        whole,
+        vars: first_vars(read),
     }
-    if VARIABLES < read.count {
-        return text::answers::bad(out);
-    }
-    answers::placed(out, graph_builder::new_receive(t, vars(read)))
 }

@@ -1,6 +1,4 @@
 // Lines that step the run: a plain action, a send, a receive.
-use crate::answers;
-use crate::lists;
 use crate::running;
 use crate::running::Answered;
 use grammar::values::Slot;
@@ -8,6 +6,8 @@ use grammar::values::Val;
 use graph_tables::answers::Done;
 use graph_tables::handed::Message;
 use graph_tables::ids::Action;
+use graph_text::lists;
+use graph_text::writing;
 use program_graph::record::ProgramGraphRun;
 use text::lists::Numbers;
 use text::lists::Values;
@@ -110,7 +110,7 @@ fn sent(out: &mut [u8], answer: Done, message: Message) -> usize {
     match answer {
         Done::Accepted => {
             let here = output::put_all(out, 0, b"ok");
-            let last = answers::put_values(out, here, sent_values(message), message.count);
+            let last = writing::put_values(out, here, sent_values(message), message.count);
             text::answers::end(out, last)
         }
         Done::Refused(r) => text::answers::refused(out, r.number()),

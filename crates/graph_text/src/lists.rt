@@ -1,4 +1,4 @@
-// Limits, expressions and guards, as lines have them. A list may be longer than a call takes: its count is handed over, and
+// Numbers, limits and guards, as lines have them. A list may be longer than a call takes: its count is handed over, and
 // what has no room is left out.
 use graph_tables::handed;
 use graph_tables::handed::Limits;
@@ -14,10 +14,8 @@ use text::numbers::Small;
 use text::tokens;
 use time::TimeRange;
 
-// The most items of an expression, and the most expressions of a line.
+// The most items of an expression.
 pub const ITEMS: usize = 100;
-
-pub const EXPRESSIONS: usize = 6;
 
 // One more than the most limits of a list: the turn after the last reads what closes it.
 const LIMITS: usize = 17;
@@ -28,6 +26,14 @@ pub fn read_action(token: &[u8]) -> Small {
         return Small::Is(Action::EPSILON.0);
     }
     numbers::read_small(token)
+}
+
+// A number, and nothing behind it.
+pub fn read_last_number(line: &[u8], at: usize) -> Small {
+    if !tokens::ended(line, tokens::next(line, at)) {
+        return Small::Bad;
+    }
+    numbers::read_small(tokens::token(line, at))
 }
 
 // A limit, and where the token after it starts.

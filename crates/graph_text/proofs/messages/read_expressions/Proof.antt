@@ -3,8 +3,8 @@ use mathlib.Core.Path.{_≡_}
 use native.Mathlib.Omega.{arith}
 use lib.ListN.{length, length-set}
 use borrow.Author.Needs.{needs}
-use Rattle.calls.proofs.messages.read_expressions.Statement.{statement}
-use Rattle.calls.proofs.messages.read_expressions.Tie as tie
+use Rattle.graph_text.proofs.messages.read_expressions.Statement.{statement}
+use Rattle.graph_text.proofs.messages.read_expressions.Tie as tie
 
 abbrev Inv-loop : tie.InvT-loop
 Inv-loop line at words₀ sizes₀ here₀ k₀ words sizes here k = (length sizes ≡ 6) × ((k ≤ 6) × (length words ≡ length words₀))

@@ -3,8 +3,8 @@ use mathlib.Core.Path.{_≡_}
 use native.Mathlib.Omega.{arith}
 use lib.ListN.{length, length-set}
 use borrow.Author.Needs.{needs}
-use Rattle.calls.proofs.expressions.read_kinds.Statement.{statement}
-use Rattle.calls.proofs.expressions.read_kinds.Tie as tie
+use Rattle.text.proofs.lists.read_letters.Statement.{statement}
+use Rattle.text.proofs.lists.read_letters.Tie as tie
 
 abbrev Inv-loop : tie.InvT-loop
 Inv-loop token words₀ k₀ k-end words k =
@@ -16,8 +16,8 @@ abbrev μ-loop : tie.MeasureT-loop
 loop-again : tie.Need-loop-again Inv-loop μ-loop
 loop-again c = simp length-set (omega arith)
 
-pub read-kinds-spec : {M : Type 1} → statement M
-read-kinds-spec =
+pub read-letters-spec : {M : Type 1} → statement M
+read-letters-spec =
     tie.close
     (tie.spec
     Inv-loop

@@ -2,8 +2,8 @@ use Prim.Native.Nat.{_-_}
 use mathlib.Core.Path.{_≡_}
 use lib.ListN.{length}
 use borrow.Author.Needs.{needs}
-use Rattle.calls.proofs.answers.put_numbers.Statement.{statement}
-use Rattle.calls.proofs.answers.put_numbers.Tie as tie
+use Rattle.graph_text.proofs.writing.put_numbers.Statement.{statement}
+use Rattle.graph_text.proofs.writing.put_numbers.Tie as tie
 
 abbrev Inv-loop : tie.InvT-loop
 Inv-loop out₀ at numbers count shown here₀ k₀ k-end out here k = (k-end ≡ length shown) × (length out ≡ length out₀)

@@ -1,26 +1,26 @@
 // The run as text. It is shown by the graph's counts, and makes no call.
-use crate::answers;
 use graph_tables::inner;
 use graph_tables::sizes;
+use graph_text::writing;
 use program_graph::record::ProgramGraphRun;
 use text::output;
 
 fn put_places(out: &mut [u8], run: ProgramGraphRun, count: usize) -> usize {
     let places = run.places;
     let here = output::put_all(out, 0, b"places");
-    answers::put_numbers(out, here, &places, count)
+    writing::put_numbers(out, here, &places, count)
 }
 
 fn put_vars(out: &mut [u8], at: usize, run: ProgramGraphRun, count: usize) -> usize {
     let vars = run.vars;
     let here = output::put_all(out, at, b" vars");
-    answers::put_values(out, here, vars, count)
+    writing::put_values(out, here, vars, count)
 }
 
 fn put_times(out: &mut [u8], at: usize, run: ProgramGraphRun, count: usize) -> usize {
     let times = run.times;
     let here = output::put_all(out, at, b" clocks");
-    answers::put_numbers(out, here, &times, count)
+    writing::put_numbers(out, here, &times, count)
 }
 
 // A count that is above the run's size shows all of the run.

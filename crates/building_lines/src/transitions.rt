@@ -1,10 +1,11 @@
-// Lines that add a transition.
-use crate::answers;
-use crate::lists;
-use crate::lists::Guard;
-use graph_builder;
+// Lines that add a transition, from their verb on.
+use crate::owners;
+use crate::owners::Owner;
 use graph_tables::ids::Action;
 use graph_tables::ids::Location;
+use graph_text::answers;
+use graph_text::lists;
+use graph_text::lists::Guard;
 use text::items;
 use text::numbers;
 use text::numbers::Small;
@@ -42,8 +43,8 @@ fn read_ends(line: &[u8], at: usize) -> Ends {
     }
 }
 
-// g transition L A L GUARD, g transition L A L GUARD LIMITS
-pub fn transition(line: &[u8], at: usize, t: &mut [u64], out: &mut [u8]) -> usize {
+// transition L A L GUARD, transition L A L GUARD LIMITS
+pub fn transition(line: &[u8], at: usize, t: &mut [u64], owner: Owner, out: &mut [u8]) -> usize {
     let Ends::Are {
         pre,
         action,
@@ -66,7 +67,7 @@ pub fn transition(line: &[u8], at: usize, t: &mut [u64], out: &mut [u8]) -> usiz
     let from = Location(pre);
     let to = Location(post);
     if tokens::ended(line, last) {
-        let d = graph_builder::add_transition(t, from, Action(action), to, guarded, guard);
+        let d = owners::add_transition(t, owner, from, Action(action), to, guarded, guard);
         return answers::done(out, d);
     }
     let read = lists::read_last_limits(line, last);
@@ -74,8 +75,9 @@ pub fn transition(line: &[u8], at: usize, t: &mut [u64], out: &mut [u8]) -> usiz
         return text::answers::bad(out);
     }
     let limits = read.limits;
-    let d = graph_builder::add_timed_transition(
+    let d = owners::add_timed_transition(
         t,
+        owner,
         from,
         Action(action),
         to,
@@ -108,8 +110,8 @@ fn read_pair(line: &[u8], at: usize) -> Pair {
     }
 }
 
-// g auto L L GUARD, g auto L L GUARD LIMITS
-pub fn auto(line: &[u8], at: usize, t: &mut [u64], out: &mut [u8]) -> usize {
+// auto L L GUARD, auto L L GUARD LIMITS
+pub fn auto(line: &[u8], at: usize, t: &mut [u64], owner: Owner, out: &mut [u8]) -> usize {
     let Pair::Is { pre, post, next } = read_pair(line, at) else {
         return text::answers::bad(out);
     };
@@ -126,7 +128,7 @@ pub fn auto(line: &[u8], at: usize, t: &mut [u64], out: &mut [u8]) -> usize {
     let from = Location(pre);
     let to = Location(post);
     if tokens::ended(line, last) {
-        let d = graph_builder::add_autonomous_transition(t, from, to, guarded, guard);
+        let d = owners::add_autonomous_transition(t, owner, from, to, guarded, guard);
         return answers::done(out, d);
     }
     let read = lists::read_last_limits(line, last);
@@ -134,6 +136,6 @@ pub fn auto(line: &[u8], at: usize, t: &mut [u64], out: &mut [u8]) -> usize {
         return text::answers::bad(out);
     }
     let limits = read.limits;
-    let d = graph_builder::add_autonomous_timed_transition(t, from, to, guarded, guard, limits);
+    let d = owners::add_autonomous_timed_transition(t, owner, from, to, guarded, guard, limits);
     answers::done(out, d)
 }

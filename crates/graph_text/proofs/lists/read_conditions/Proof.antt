@@ -1,7 +1,7 @@
 use Prim.Native.Nat.{_-_, _≤_}
 use borrow.Author.Needs.{needs}
-use Rattle.calls.proofs.lists.read_conditions.Statement.{statement}
-use Rattle.calls.proofs.lists.read_conditions.Tie as tie
+use Rattle.graph_text.proofs.lists.read_conditions.Statement.{statement}
+use Rattle.graph_text.proofs.lists.read_conditions.Tie as tie
 
 abbrev Inv-loop : tie.InvT-loop
 Inv-loop line at list₀ here₀ count₀ list here count = count ≤ 17

@@ -2,8 +2,8 @@ use Prim.Native.Nat.{_-_, _≤_}
 use mathlib.Core.Path.{_≡_}
 use lib.ListN.{length}
 use borrow.Author.Needs.{needs}
-use Rattle.calls.proofs.answers.put_values.Statement.{statement}
-use Rattle.calls.proofs.answers.put_values.Tie as tie
+use Rattle.graph_text.proofs.writing.put_values.Statement.{statement}
+use Rattle.graph_text.proofs.writing.put_values.Tie as tie
 
 abbrev Inv-loop : tie.InvT-loop
 Inv-loop out₀ at count slots here₀ k₀ out here k = (k ≤ 16) × (length out ≡ length out₀)

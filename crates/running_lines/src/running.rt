@@ -5,8 +5,9 @@ use crate::stepping;
 use graph_tables::answers::Done;
 use graph_tables::ids::Clock;
 use graph_tables::ids::Var;
+use graph_text::answers::done;
+use graph_text::lists;
 use program_graph::record::ProgramGraphRun;
-use text::numbers;
 use text::numbers::Small;
 use text::tokens;
 
@@ -26,7 +27,7 @@ pub fn bad(run: ProgramGraphRun, out: &mut [u8]) -> Answered {
 // What a call answered, and the run after it.
 pub fn told(out: &mut [u8], answer: Done, run: ProgramGraphRun) -> Answered {
     Answered {
-        length: answers::done(out, answer),
+        length: done(out, answer),
         run,
     }
 }
@@ -60,12 +61,9 @@ fn numbered(
     run: ProgramGraphRun,
     out: &mut [u8],
 ) -> Answered {
-    let Small::Is(n) = numbers::read_small(tokens::token(line, at)) else {
+    let Small::Is(n) = lists::read_last_number(line, at) else {
         return bad(run, out);
     };
-    if !tokens::ended(line, tokens::next(line, at)) {
-        return bad(run, out);
-    }
     if tokens::is(verb, b"wait") {
         let w = run.wait(t, n);
         let answer = w.answer;
