@@ -24,3 +24,8 @@ pub mod Sound
 pub mod Theorems
 pub mod FitLaws
 pub mod Determined
+pub mod TreeTheorems
+pub mod OneToOne
+pub mod FailLaws
+pub mod FailTheorems
+pub mod TreeForms

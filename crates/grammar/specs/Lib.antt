@@ -9,3 +9,5 @@ pub mod Evaluation
 pub mod Slots
 pub mod Inner
 pub mod Marked
+pub mod Trees
+pub mod Failing

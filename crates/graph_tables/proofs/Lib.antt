@@ -4,3 +4,4 @@ pub mod MessageLaws
 pub mod KeptLaws
 pub mod NumberLaws
 pub mod Determined
+pub mod OneToOne
