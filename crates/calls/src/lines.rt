@@ -15,8 +15,8 @@ use text::lines;
 use text::ranges;
 use text::tokens;
 
-// Room for the longest answer, a run that is shown whole.
-const ANSWER: usize = 512;
+// Room for the longest answer, a state that is shown whole.
+const ANSWER: usize = 10000;
 
 // Lines on the graph. A new one has no run yet.
 fn on_graph(
@@ -41,14 +41,15 @@ fn on_graph(
     }
 }
 
-// Lines on the system.
-fn on_system(line: &[u8], at: usize, s: &mut [u64], out: &mut [u8]) -> usize {
+// Lines on the system. A new one has no state yet.
+fn on_system(line: &[u8], at: usize, s: &mut [u64], state: &mut [u64], out: &mut [u8]) -> usize {
     if !tokens::is(tokens::token(line, at), b"new") {
         return system::answer(line, at, s, out);
     }
     if !tokens::ended(line, tokens::next(line, at)) {
         return text::answers::bad(out);
     }
+    table::clear(state);
     done(out, system_builder::new(s))
 }
 
@@ -76,16 +77,20 @@ fn on_words(
     at: usize,
     t: &mut [u64],
     s: &mut [u64],
+    state: &mut [u64],
     out: &mut [u8],
 ) -> usize {
     if tokens::is(name, b"s") {
-        return on_system(line, at, s, out);
+        return on_system(line, at, s, state, out);
+    }
+    if tokens::is(name, b"t") {
+        return system_lines::running::answer(line, at, s, state, out);
     }
     if tokens::is(name, b"poke") {
-        return table::poke(line, at, t, s, out);
+        return table::poke(line, at, t, s, state, out);
     }
     if tokens::is(name, b"sum") {
-        return table::sum(line, at, t, s, out);
+        return table::sum(line, at, t, s, state, out);
     }
     on_values(line, name, at, out)
 }
@@ -94,6 +99,7 @@ fn answer(
     line: &[u8],
     t: &mut [u64],
     s: &mut [u64],
+    state: &mut [u64],
     run: ProgramGraphRun,
     out: &mut [u8],
 ) -> Answered {
@@ -106,7 +112,7 @@ fn answer(
         return running::answer(line, at, t, run, out);
     }
     Answered {
-        length: on_words(line, name, at, t, s, out),
+        length: on_words(line, name, at, t, s, state, out),
         run,
     }
 }
@@ -117,6 +123,7 @@ fn tell(
     length: usize,
     t: &mut [u64],
     s: &mut [u64],
+    state: &mut [u64],
     run: ProgramGraphRun,
 ) -> ProgramGraphRun {
     let mut out = [0u8; ANSWER];
@@ -125,14 +132,20 @@ fn tell(
         io::write_all(STDOUT_FILENO, tokens::part(&out, count));
         return run;
     }
-    let answered = answer(tokens::part(line, length), t, s, run, &mut out);
+    let answered = answer(tokens::part(line, length), t, s, state, run, &mut out);
     io::write_all(STDOUT_FILENO, tokens::part(&out, answered.length));
     let next = answered.run;
     next
 }
 
 // The turns are counted down, as in reading.
-pub fn answer_all(line: &mut [u8], bytes: &mut [u8], t: &mut [u64], s: &mut [u64]) {
+pub fn answer_all(
+    line: &mut [u8],
+    bytes: &mut [u8],
+    t: &mut [u64],
+    s: &mut [u64],
+    state: &mut [u64],
+) {
     let mut run = fresh::no_run();
     let mut reader = lines::start();
     let mut turns = u64::MAX;
@@ -141,7 +154,7 @@ pub fn answer_all(line: &mut [u8], bytes: &mut [u8], t: &mut [u64], s: &mut [u64
         if !reader.whole {
             return;
         }
-        run = tell(line, reader.length, t, s, run);
+        run = tell(line, reader.length, t, s, state, run);
         turns -= 1;
     }
 }

@@ -1,4 +1,4 @@
-// Lines on the words of the graph's table and of the system's.
+// Lines on the words of the graph's table, of the system's and of its state.
 use text::numbers;
 use text::numbers::Number;
 use text::numbers::Small;
@@ -27,8 +27,15 @@ fn poke_at(line: &[u8], at: usize, t: &mut [u64], out: &mut [u8]) -> usize {
     write(t, n as usize, word, out)
 }
 
-// poke g N W, poke s N W
-pub fn poke(line: &[u8], at: usize, t: &mut [u64], s: &mut [u64], out: &mut [u8]) -> usize {
+// poke g N W, poke s N W, poke t N W
+pub fn poke(
+    line: &[u8],
+    at: usize,
+    t: &mut [u64],
+    s: &mut [u64],
+    state: &mut [u64],
+    out: &mut [u8],
+) -> usize {
     let name = tokens::token(line, at);
     let next = tokens::next(line, at);
     if tokens::is(name, b"g") {
@@ -36,6 +43,9 @@ pub fn poke(line: &[u8], at: usize, t: &mut [u64], s: &mut [u64], out: &mut [u8]
     }
     if tokens::is(name, b"s") {
         return poke_at(line, next, s, out);
+    }
+    if tokens::is(name, b"t") {
+        return poke_at(line, next, state, out);
     }
     text::answers::bad(out)
 }
@@ -53,8 +63,8 @@ fn weighed(t: &[u64]) -> u64 {
     sum
 }
 
-// sum g, sum s
-pub fn sum(line: &[u8], at: usize, t: &[u64], s: &[u64], out: &mut [u8]) -> usize {
+// sum g, sum s, sum t
+pub fn sum(line: &[u8], at: usize, t: &[u64], s: &[u64], state: &[u64], out: &mut [u8]) -> usize {
     if !tokens::ended(line, tokens::next(line, at)) {
         return text::answers::bad(out);
     }
@@ -65,5 +75,15 @@ pub fn sum(line: &[u8], at: usize, t: &[u64], s: &[u64], out: &mut [u8]) -> usiz
     if tokens::is(name, b"s") {
         return text::answers::ok_number(out, weighed(s));
     }
+    if tokens::is(name, b"t") {
+        return text::answers::ok_number(out, weighed(state));
+    }
     text::answers::bad(out)
+}
+
+// Every word is 0.
+pub fn clear(words: &mut [u64]) {
+    for at in 0..words.len() {
+        words[at] = 0;
+    }
 }

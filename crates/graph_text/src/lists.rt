@@ -10,6 +10,7 @@ use text::bounds::Limit;
 use text::items;
 use text::items::Expression;
 use text::numbers;
+use text::numbers::Number;
 use text::numbers::Small;
 use text::tokens;
 use time::TimeRange;
@@ -34,6 +35,14 @@ pub fn read_last_number(line: &[u8], at: usize) -> Small {
         return Small::Bad;
     }
     numbers::read_small(tokens::token(line, at))
+}
+
+// W, and nothing behind it.
+pub fn read_last_word(line: &[u8], at: usize) -> Number {
+    if !tokens::ended(line, tokens::next(line, at)) {
+        return Number::Bad;
+    }
+    numbers::read_wide(tokens::token(line, at))
 }
 
 // A limit, and where the token after it starts.

@@ -1,5 +1,6 @@
 // Lines on a run of a graph. Each is answered by the public call that it names.
-mod answers;
+pub mod answers;
+pub mod messages;
 pub mod running;
-mod showing;
+pub mod showing;
 mod stepping;

@@ -1,17 +1,14 @@
 // Lines that step the run: a plain action, a send, a receive.
+use crate::messages;
 use crate::running;
 use crate::running::Answered;
-use grammar::values::Slot;
-use grammar::values::Val;
 use graph_tables::answers::Done;
 use graph_tables::handed::Message;
 use graph_tables::ids::Action;
 use graph_text::lists;
-use graph_text::writing;
 use program_graph::record::ProgramGraphRun;
 use text::lists::Numbers;
 use text::lists::Values;
-use text::numbers;
 use text::numbers::Number;
 use text::numbers::Small;
 use text::output;
@@ -67,14 +64,6 @@ fn read_asked(line: &[u8], at: usize) -> Asked {
     }
 }
 
-// W, and nothing behind it.
-fn read_last_word(line: &[u8], at: usize) -> Number {
-    if !tokens::ended(line, tokens::next(line, at)) {
-        return Number::Bad;
-    }
-    numbers::read_wide(tokens::token(line, at))
-}
-
 // r step A POSTS W
 pub fn step(line: &[u8], at: usize, t: &[u64], run: ProgramGraphRun, out: &mut [u8]) -> Answered {
     let asked = read_asked(line, at);
@@ -82,7 +71,7 @@ pub fn step(line: &[u8], at: usize, t: &[u64], run: ProgramGraphRun, out: &mut [
         return running::bad(run, out);
     }
     let posts = asked.posts;
-    let Number::Is(word) = read_last_word(line, posts.next) else {
+    let Number::Is(word) = lists::read_last_word(line, posts.next) else {
         return running::bad(run, out);
     };
     let numbers = posts.numbers;
@@ -93,24 +82,11 @@ pub fn step(line: &[u8], at: usize, t: &[u64], run: ProgramGraphRun, out: &mut [
     running::told(out, answer, next)
 }
 
-// The values of a message in as many slots as variables have.
-fn sent_values(message: Message) -> [Slot; 16] {
-    let values = message.values;
-    let mut slots = [Slot {
-        value: Val::Boolean(false),
-    }; 16];
-    slots[0] = values[0];
-    slots[1] = values[1];
-    slots[2] = values[2];
-    slots[3] = values[3];
-    slots
-}
-
 fn sent(out: &mut [u8], answer: Done, message: Message) -> usize {
     match answer {
         Done::Accepted => {
             let here = output::put_all(out, 0, b"ok");
-            let last = writing::put_values(out, here, sent_values(message), message.count);
+            let last = messages::put_message(out, here, message);
             text::answers::end(out, last)
         }
         Done::Refused(r) => text::answers::refused(out, r.number()),
@@ -124,7 +100,7 @@ pub fn send(line: &[u8], at: usize, t: &[u64], run: ProgramGraphRun, out: &mut [
         return running::bad(run, out);
     }
     let posts = asked.posts;
-    let Number::Is(word) = read_last_word(line, posts.next) else {
+    let Number::Is(word) = lists::read_last_word(line, posts.next) else {
         return running::bad(run, out);
     };
     let numbers = posts.numbers;

@@ -1,0 +1,6 @@
+// Lines on a state of a system. Each is answered by the public call that it names.
+mod answers;
+mod pairs;
+pub mod running;
+mod showing;
+mod stepping;
