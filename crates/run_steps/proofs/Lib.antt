@@ -1,6 +1,7 @@
 pub mod StepLaws
 pub mod AnyLaws
 pub mod LimitLaws
+pub mod LaterLaws
 pub mod KeyLaws
 pub mod VarLaws
 pub mod MessageLaws

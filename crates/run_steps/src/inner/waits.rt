@@ -7,7 +7,7 @@ ghost use Prim.Native.Nat.{ℕ, _≤_, _<_};
 ghost use lib.ListN.{length, getD};
 ghost use Rattle.laws.specs.Below.{allBelow};
 ghost use Rattle.graph_tables.specs.Sizes.{clockRoom};
-ghost use Rattle.graph_tables.specs.Words.{locationCount};
+ghost use Rattle.graph_tables.specs.Words.{locationCount, clockCount};
 ghost use Rattle.graph_tables.specs.Sound.{Sound};
 ghost use Rattle.run_steps.specs.Steps.{clockFits, shiftedBelow, placeHolds};
 
@@ -43,6 +43,22 @@ pub fn places_hold(t: &[u64], places: &[u64], clocks: &[u64]) -> bool
 {
     for p in 0..places.len() {
         if !limits::invariants_hold(t, places[p] as usize, clocks) {
+            return false;
+        }
+    }
+    true
+}
+
+// The same once the clocks are moved.
+pub fn places_hold_later(t: &[u64], places: &[u64], clocks: &[u64], delta: u32) -> bool
+    requires { ⌜ Sound (now t) × (length (now clocks) ≡ clockRoom)
+        × ((p : ℕ) → p < length (now places) → getD (now places) p 0 < locationCount (now t))
+        × (allBelow (clockCount (now t)) (clockFits (now clocks) delta) ≡ true) ⌝ }
+    ensures { λ r. ⌜ r ≡ allBelow (length (now (places .entry)))
+        (placeHolds (now (t .entry)) (now (places .entry)) (shiftedBelow (now (clocks .entry)) delta (clockCount (now (t .entry))))) ⌝ }
+{
+    for p in 0..places.len() {
+        if !limits::invariants_hold_later(t, places[p] as usize, clocks, delta) {
             return false;
         }
     }
