@@ -53,9 +53,13 @@ pub fn wait_holds(t: &[u64], r: &[u64], delta: u32) -> bool
     requires { ⌜ Sound (now t) × RunOf (now t) (now r) × (waitFits (runAt (now r)) delta ≡ true) ⌝ }
     ensures { λ x. ⌜ x ≡ waitHolds (now (t .entry)) (runAt (now (r .entry))) delta ⌝ }
 {
-    let mut times = [0; sizes::CLOCKS];
-    times_later(t, r, delta, &mut times);
-    places_hold(t, r, &times)
+    let n = r[runs::PROCESSES] as usize;
+    waits::places_hold_later(
+        t,
+        &r[runs::PLACES..runs::PLACES + n],
+        &r[runs::CLOCKS..runs::WORDS],
+        delta,
+    )
 }
 
 // A wait on a table and a run that are known to fit.
