@@ -6,12 +6,12 @@ import sys
 from pathlib import Path
 
 TOP = Path(__file__).resolve().parent.parent
-TIMES = {"(eight times)": 8}
+NUMBERS = {"eight": 8}
 
 
 def scripts(page):
     """The indented blocks, each a list of (line, expected answer or None). An answer may stand on the line below its call."""
-    for block in re.findall(r"(?:^ {6}.*\n)+", page, re.M):
+    for block in re.findall(r"(?:^ {4,}(?! ).*\n)+", page, re.M):
         script = []
         for text in block.splitlines():
             line, _, said = (part.strip() for part in text.partition("=>"))
@@ -19,7 +19,8 @@ def scripts(page):
             if not line:
                 script[-1] = (script[-1][0], expected)
                 continue
-            repeat = next((n for mark, n in TIMES.items() if line.endswith(mark)), 1)
+            times = re.search(r"\((\w+) times\)$", line)
+            repeat = (NUMBERS.get(times[1]) or int(times[1])) if times else 1
             line = line.split("  ")[0]
             script += [(line, expected)] * repeat
         yield script
