@@ -4,7 +4,6 @@ pub mod SpokenLaws
 pub mod TransferLaws
 pub mod StepLaws
 pub mod EntryLaws
-pub mod LowestLaws
 pub mod LaterLaws
 pub mod FittingLaws
 pub mod WaitTheorems
@@ -30,3 +29,4 @@ pub mod SystemInvariants
 pub mod SystemQueues
 pub mod SystemClocks
 pub mod Demand
+pub mod Theorems

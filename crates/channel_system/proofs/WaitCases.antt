@@ -13,7 +13,8 @@ use Rattle.system_tables.specs.Sound.{SystemSound}
 use Rattle.system_state.specs.Words.{timeIn, queuePart}
 use Rattle.system_state.specs.Fits.{StateSound}
 use Rattle.channel_system.specs.Steps.{runOf}
-use Rattle.channel_system.specs.Waits.{clocksFit, graphHolds, allFit, lowest, laterState, Passed, refusedWait, passedOf}
+use Rattle.run_steps.specs.Lowest.{lowest}
+use Rattle.channel_system.specs.Waits.{clocksFit, graphHolds, allFit, laterState, Passed, refusedWait, passedOf}
 use Rattle.channel_system.specs.declared.answers.Waited.the-variants as Waited
 use Rattle.channel_system.proofs.LaterLaws.{clock-fits, later-sound, later-time, later-run, later-queue}
 

@@ -32,7 +32,8 @@ use Rattle.system_tables.specs.Sound.{SystemSound}
 use Rattle.system_state.specs.Words.{timeIn}
 use Rattle.system_state.specs.Fits.{StateSound}
 use Rattle.channel_system.specs.Steps.{systemFits, runOf}
-use Rattle.channel_system.specs.Waits.{clocksFit, graphHolds, allFit, lowest, Passed, refusedWait, passedOf, waitOf, canWaitOf}
+use Rattle.run_steps.specs.Lowest.{lowest}
+use Rattle.channel_system.specs.Waits.{clocksFit, graphHolds, allFit, Passed, refusedWait, passedOf, waitOf, canWaitOf}
 use Rattle.channel_system.specs.Waits.{laterState, waitOpen, graphWaits, systemWaits, isWaitingOf}
 use Rattle.channel_system.specs.Waiting.{InTime, ClockLate, TooLate, HoldsAfter, Lowest, SomeAwaited}
 use Rattle.channel_system.specs.declared.answers.Waited.{Waited}

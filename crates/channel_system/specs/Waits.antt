@@ -1,12 +1,13 @@
 -- A wait of a system, and whether it is waiting (docs/RULES.md, 'Systems'): the answer, and the state afterwards.
 use Prim.Native.Nat.{ℕ, zero, suc, _+_}
-use mathlib.Core.Bool.{Bool, cond}
+use mathlib.Core.Bool.{Bool}
 use mathlib.Core.List.{List}
-use lib.Dec.{leb, ltb}
+use lib.Dec.{leb}
 use Rattle.laws.specs.Ladder.{unless}
 use Rattle.laws.specs.Below.{_and_, allBelow, anyBelow}
 use Rattle.graph_tables.specs.Sizes.{lastTime}
 use Rattle.graph_tables.specs.Refusals.{refusal}
+use Rattle.run_steps.specs.Lowest.{lowest}
 use Rattle.program_graph.specs.Running.{waitFits, waitHolds, waitsOn, later}
 use Rattle.program_graph.specs.declared.answers.Held.{Held}
 use Rattle.program_graph.specs.declared.answers.Held.the-variants as Held
@@ -33,11 +34,6 @@ laterOn t s delta g = ranTo t s g (later (runOf s g) delta)
 -- neither the time nor a clock would pass the last time
 unfoldable pub allFit : List ℕ → List ℕ → ℕ → Bool
 allFit t s delta = leb (timeIn s + delta) lastTime and allBelow (graphCount t) (clocksFit s delta)
-
--- the lowest number below n at which a test fails, n if there is none
-unfoldable pub lowest : ℕ → (ℕ → Bool) → ℕ
-lowest zero p = zero
-lowest (suc n) p = cond (ltb (lowest n p) n) (lowest n p) (cond (p n) (suc n) n)
 
 -- the clocks of the first n graphs moved
 unfoldable pub laterBelow : List ℕ → List ℕ → ℕ → ℕ → List ℕ

@@ -1,4 +1,4 @@
--- What holds of every expression.
+-- What holds of every expression. Further: FailTheorems (when one has a value), TreeTheorems and TreeForms (its tree), OneToOne (its words).
 use Prim.Native.Nat.{ℕ, _+_, _*_, _/_, _%_, _^_, _≤_, _<_, _∣_}
 use mathlib.Core.Path.{_≡_, refl, sym, ap, _∙_, subst}
 use native.Mathlib.Omega.{arith}

@@ -5,3 +5,12 @@ pub mod KnownChecks
 pub mod KeptParts
 pub mod Theorems
 pub mod Determined
+pub mod ExactLaws
+pub mod ExactChecks
+pub mod ExactHanded
+pub mod ExactParts
+pub mod ExactActions
+pub mod ExactTransitions
+pub mod ExactUsed
+pub mod ExactWords
+pub mod ExactTheorems

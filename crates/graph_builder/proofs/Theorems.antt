@@ -1,4 +1,4 @@
--- What holds of building a graph.
+-- What holds of building a graph. Further: ExactTheorems (32 exactly where no calls build what is there).
 use Prim.Native.Nat.{ℕ, zero, suc, _+_, _<_}
 use mathlib.Core.Path.{_≡_, refl, sym, ap, subst, _∙_}
 use mathlib.Core.Logic.{_≢_, _↔_}

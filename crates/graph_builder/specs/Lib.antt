@@ -1,3 +1,5 @@
 pub mod Building
 pub mod Chains
 pub mod Reading
+pub mod Built
+pub mod Used

@@ -3,3 +3,4 @@ pub mod TypedLaws
 pub mod ReadyActions
 pub mod ReadyParts
 pub mod Determined
+pub mod Theorems

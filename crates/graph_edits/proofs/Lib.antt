@@ -16,3 +16,4 @@ pub mod KeyLaws
 pub mod ListLaws
 pub mod PartsKept
 pub mod EditsRead
+pub mod Theorems

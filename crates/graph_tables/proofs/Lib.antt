@@ -5,3 +5,4 @@ pub mod KeptLaws
 pub mod NumberLaws
 pub mod Determined
 pub mod OneToOne
+pub mod Theorems

@@ -33,3 +33,4 @@ pub mod MarkedLaws
 pub mod RunListed
 pub mod Determined
 pub mod UsedLaws
+pub mod Theorems

@@ -1,6 +1,8 @@
 pub mod StepLaws
 pub mod AnyLaws
+pub mod LowestLaws
 pub mod LimitLaws
+pub mod FailingLaws
 pub mod LaterLaws
 pub mod KeyLaws
 pub mod VarLaws
@@ -10,3 +12,4 @@ pub mod Catalogs
 pub mod ListingTheorems
 pub mod UsedLaws
 pub mod AgreeLaws
+pub mod Theorems

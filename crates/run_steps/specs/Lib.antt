@@ -1,3 +1,4 @@
+pub mod Lowest
 pub mod Steps
 pub mod Inner
 pub mod Messages

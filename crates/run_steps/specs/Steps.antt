@@ -4,6 +4,7 @@ use mathlib.Core.Bool.{Bool, true, false, cond}
 use mathlib.Core.List.{List}
 use lib.Dec.{eqb, leb, ltb}
 use lib.ListN.{getD, set}
+use Rattle.laws.specs.Ladder.{unless}
 use Rattle.laws.specs.Below.{_and_, allBelow, anyBelow}
 use Rattle.time.specs.Time.{inRange}
 use Rattle.grammar.specs.Evaluation.{evaluationOf}
@@ -46,6 +47,25 @@ guardHolds t vars k = cond (eqb (guardLength t k) 0) true (satisfied (evaluation
 unfoldable pub passesOf : List ℕ → List Slot → List ℕ → List ℕ → ℕ → Bool
 passesOf t vars clocks after k =
     guardHolds t vars k and limitsHold t k (limitCount t k) clocks and invariantsHold t after (postOf (keyOf t k))
+
+-- what fails of it first, in that order: it passes exactly when nothing does
+abbrev pub nothingFails : ℕ
+nothingFails = 0
+
+abbrev pub guardFails : ℕ
+guardFails = 1
+
+abbrev pub limitFails : ℕ
+limitFails = 2
+
+abbrev pub invariantFails : ℕ
+invariantFails = 3
+
+unfoldable pub failingOf : List ℕ → List Slot → List ℕ → List ℕ → ℕ → ℕ
+failingOf t vars clocks after k =
+    unless (guardHolds t vars k) guardFails
+    (unless (limitsHold t k (limitCount t k) clocks) limitFails
+    (unless (invariantsHold t after (postOf (keyOf t k))) invariantFails nothingFails))
 
 -- transition k leaves a location by an action
 unfoldable pub leavesBy : List ℕ → ℕ → ℕ → ℕ → Bool

@@ -31,11 +31,11 @@ use Rattle.system_builder.specs.Systems.{noMembers, emptySystemOf, start
 
 -- ---- an empty system: it has no graph and no channel
 module _ (t : List ℕ) (words : SystemWords t) where
-  no-graphs : graphCount (noMembers t) ≡ 0
+  pub no-graphs : graphCount (noMembers t) ≡ 0
   no-graphs =
       getD-set-other (set t graphsCell 0) channelsCell graphsCell 0 0 (λ e. omega arith) ∙ getD-set-same t graphsCell 0 0 (omega arith)
 
-  no-channels : channelCount (noMembers t) ≡ 0
+  pub no-channels : channelCount (noMembers t) ≡ 0
   no-channels = getD-set-same (set t graphsCell 0) channelsCell 0 0 (simp length-set (omega arith))
 
   none-formed : Formed (noMembers t) true
@@ -81,7 +81,7 @@ runnable G h some = own.build-exactly G .0 (rw (h, lt-ltb 0 (processCount G) som
 
 module _ (t : List ℕ) where
   -- so is a system, of which each graph has one
-  all-started : systemFormed t false ≡ true → (systemFormed t true ≡ true) × (allBelow (graphCount t) (started t) ≡ true)
+  pub all-started : systemFormed t false ≡ true → (systemFormed t true ≡ true) × (allBelow (graphCount t) (started t) ≡ true)
   unfolding graphFormed started
   all-started h =
       let f = apart t false h in (
@@ -96,7 +96,7 @@ module _ (t : List ℕ) where
         all-from (started t) _ (λ g l. lt-ltb _ _ (system-started t h g l)),
       )
 
-  for-a-run : systemFormed t true ≡ true → allBelow (graphCount t) (started t) ≡ true → systemFormed t false ≡ true
+  pub for-a-run : systemFormed t true ≡ true → allBelow (graphCount t) (started t) ≡ true → systemFormed t false ≡ true
   unfolding graphFormed started
   for-a-run h all =
       let f = apart t true h in

@@ -41,7 +41,7 @@ use Rattle.system_tables.proofs.ElsewhereLaws.{Elsewhere, set-elsewhere}
 use Rattle.system_tables.proofs.FrameLaws.{CountsSame, ChannelSame, with-graph-elsewhere, with-graph-part, graph-counts, graph-channel}
 use Rattle.system_tables.proofs.FrameLaws.{graph-communications, graph-graph, communications-counts, communications-channel}
 use Rattle.system_tables.proofs.FrameLaws.{communications-communications, communications-graph}
-use Rattle.system_tables.proofs.KeptLaws.{Formed, ActionSame, same-action, ChannelsGrown, fits-kept, communications-more}
+use Rattle.system_tables.proofs.KeptLaws.{Formed, ActionSame, same-action, ChannelsGrown, rows-grown, fits-kept, communications-more}
 use Rattle.system_tables.proofs.CarriedLaws.{GraphCarried, kept, anew, carried, same-actions, with-graph-formed}
 use Rattle.system_builder.specs.Graphs.{memberCheck, onlyIf, onPart, onGraph, told, telling, newActionOn}
 use Rattle.system_builder.specs.Messages.{knownCheck, sendCheckOn, receiveCheckOn, sendPart, receivePart, noValues}
@@ -98,7 +98,7 @@ module _ (t : List ℕ) (f : Formed t true) (g : ℕ) (known : g < graphCount t)
       communications-channel put-words g wrote-there q s j k ∙ graph-channel (f .words) g put-there q s j k
 
   grown : ChannelsGrown t wrote
-  grown = record { more = rw (counts .channels) (le-refl _); row = rows; few = λ q l. channel-narrow t q (f .channel q l) }
+  grown = rows-grown t wrote (rw (counts .channels) (le-refl _)) rows (λ q l. channel-narrow t q (f .channel q l))
 
   pub part : graphPart wrote g ≡ H
   part = communications-graph put-words g wrote-there g small ∙ with-graph-part t H (f .words) g small (sound H true formed .words)

@@ -12,4 +12,10 @@ pub mod KeptTheorems
 pub mod AfterCalls
 pub mod StaysLaws
 pub mod MeaningTheorems
+pub mod ExactUsed
+pub mod ExactLifts
+pub mod ExactChains
+pub mod ExactMembers
+pub mod ExactWords
+pub mod ExactTheorems
 pub mod Determined

@@ -15,7 +15,7 @@ use Rattle.grammar.specs.declared.values.«Type».{«Type» as Kind}
 use Rattle.grammar.specs.declared.typing.Typed.{Typed}
 use Rattle.grammar.specs.declared.typing.Typed.the-variants.{Known, IllTyped, TableFull, TooDeep}
 use Rattle.graph_tables.specs.Sizes.{messageRoom, sendKind, receiveKind}
-use Rattle.graph_tables.specs.Words.{actionCount, kindsOf, actionKind, effectVar, effectItems}
+use Rattle.graph_tables.specs.Words.{actionCount, kindAt, kindsOf, actionKind, effectVar, effectItems}
 use Rattle.graph_tables.specs.Formed.{wellFormed}
 use Rattle.graph_tables.specs.Handed.{handedVar}
 use Rattle.graph_tables.specs.Messages.{isPlain, isSend, isReceive, messageCount, valueKind}
@@ -82,7 +82,7 @@ module _ (G : List ℕ) (c : Call) (fit : Fits c) (x : StoredAction) (puts : Put
       ap (actionAt (after G c)) (sym (list-length (actionAt G) (actionCount G)))
       ∙ last-row (actionAt (after G c)) (actionCount (after G c)) (actionsOf G) x actions-read
 
-  new-kind : wellFormed G true ≡ true → actionKind (after G c) (actionCount G) ≡ kindIn x
+  pub new-kind : wellFormed G true ≡ true → actionKind (after G c) (actionCount G) ≡ kindIn x
   new-kind h =
       sym (stored-kind (after G c) (actionCount G)
       (sound (after G c) true (stays-formed G c fit h) .action (actionCount G) (omega (arith, one-more)) .kind))
@@ -159,7 +159,7 @@ typed-kind w IllTyped h e = let z : _≡_ {A = ℕ} 0 1 = cc in absurd (omega ar
 typed-kind w TableFull h e = let z : _≡_ {A = ℕ} 0 1 = cc in absurd (omega arith)
 typed-kind w (TooDeep k) h e = let z : _≡_ {A = ℕ} 0 1 = cc in absurd (omega arith)
 
-is-kinded : (x : Typed) → isTyped x ≡ true → kinded x ≡ true
+pub is-kinded : (x : Typed) → isTyped x ≡ true → kinded x ≡ true
 is-kinded (Known k) h = refl
 is-kinded IllTyped h = h
 is-kinded TableFull h = h
@@ -194,16 +194,23 @@ module _ (t G : List ℕ) (h : wellFormed G true ≡ true) (q : Channel) (known 
         sym (ap expressionsIn (send-at sent (actionCount G) sent-kind))
         ∙ ap expressionsIn (new-at G (new-send m count) tt (send (listOf m count)) (λ g. refl) ok)
 
-    sent-count : messageCount sent (actionCount G) ≡ count
+    pub sent-count : messageCount sent (actionCount G) ≡ count
     unfolding messageCount
     sent-count = rows-count m (effectItems sent (actionCount G)) count _ sent-list
 
+    pub send-was : SendReady G m count
+    unfolding newSendOf
+    send-was = send-ready G m count (accepted (sendCheck G m count) G _ _ ok)
+
+    -- the kind of each of its values is that of the expression
+    pub sent-word : (e : ℕ) → e < count → (k : Kind) → typeOf (kindsOf G) (m e) ≡ Known k → valueKind sent (actionCount G) e ≡ kindWord k
+    unfolding valueKind
+    sent-word e l k typed =
+        let items : effectItems sent (actionCount G) e ≡ m e = rows-same m (effectItems sent (actionCount G)) count _ sent-list e l in
+        rw (send-no-receive sent (actionCount G) sends, items, typed-grown (after-grown G h (new-send m count) tt) (m e) k typed)
+
     -- the check of its values passed: they are those of the channel
     module _ (check : sentCheck t (q .0) G m count ≡ Done.Accepted) where
-      send-was : SendReady G m count
-      unfolding newSendOf
-      send-was = send-ready G m count (accepted (sendCheck G m count) G _ _ ok)
-
       sent-passed : (count ≡ widthOf t (q .0)) × (allBelow count (sentFits t (q .0) G m) ≡ true)
       unfolding sentCheck sentTyped
       sent-passed =
@@ -213,18 +220,12 @@ module _ (t G : List ℕ) (h : wellFormed G true ≡ true) (q : Channel) (known 
           check)
 
       sent-value : (e : ℕ) → e < count → valueKind sent (actionCount G) e ≡ channelKind t (q .0) e
-      unfolding valueKind sentFits
+      unfolding sentFits
       sent-value e l =
           let k = typed-kind (channelKind t (q .0) e) (typeOf (kindsOf G) (m e)) (send-was .expression e l .1)
           (all-at (sentFits t (q .0) G m) count e (sent-passed .1) l)
           in
-          let items : effectItems sent (actionCount G) e ≡ m e = rows-same m (effectItems sent (actionCount G)) count _ sent-list e l in
-          rw (
-            send-no-receive sent (actionCount G) sends,
-            items,
-            typed-grown (after-grown G h (new-send m count) tt) (m e) (k .0) (k .1 .0),
-          )
-          (k .1 .1)
+          sent-word e l (k .0) (k .1 .0) ∙ k .1 .1
 
       sent-message : messageFits t (q .0) sent (actionCount G) ≡ true
       unfolding messageFits valueFits
@@ -238,7 +239,7 @@ module _ (t G : List ℕ) (h : wellFormed G true ≡ true) (q : Channel) (known 
       send-fits = on-fits t Send q sent (actionCount G) known (and-both sends sent-message)
 
   -- ---- a receive
-  module _ (v : Vars) (ok : answerOf G (new-receive v) ≡ 0) (check : receivedCheck t (q .0) G v ≡ Done.Accepted) where
+  module _ (v : Vars) (ok : answerOf G (new-receive v) ≡ 0) where
     abbrev taken : List ℕ
     taken = after G (new-receive v)
 
@@ -254,42 +255,47 @@ module _ (t G : List ℕ) (h : wellFormed G true ≡ true) (q : Channel) (known 
         sym (ap targetsIn (receive-at taken (actionCount G) taken-kind))
         ∙ ap targetsIn (new-at G (new-receive v) tt (receive (listOf (handedVar v) (v .count))) (λ g. refl) ok)
 
-    taken-count : messageCount taken (actionCount G) ≡ v .count
+    pub taken-count : messageCount taken (actionCount G) ≡ v .count
     unfolding messageCount
     taken-count = rows-count (handedVar v) (effectVar taken (actionCount G)) (v .count) _ taken-list
 
-    receive-was : ReceiveReady G v
+    pub receive-was : ReceiveReady G v
     unfolding newReceiveOf
     receive-was = receive-ready G v (accepted (receiveCheck G v) G _ _ ok)
 
-    taken-passed : (v .count ≡ widthOf t (q .0)) × (allBelow (v .count) (receivedFits t (q .0) G v) ≡ true)
-    unfolding receivedCheck varKnown
-    taken-passed =
-        fit-passed _ _ _
-        (read-passed (leb (v .count) messageRoom) (allBelow (v .count) (varKnown G v)) _ (le-leb _ _ (receive-was .few))
-        (all-from (varKnown G v) (v .count) (λ i l. lt-ltb _ _ (receive-was .var i l)))
-        check)
-
-    taken-value : (e : ℕ) → e < v .count → valueKind taken (actionCount G) e ≡ channelKind t (q .0) e
-    unfolding valueKind receivedFits
-    taken-value e l =
+    -- the kind of each of its values is that of the variable
+    pub taken-word : (e : ℕ) → e < v .count → valueKind taken (actionCount G) e ≡ kindAt G (handedVar v e)
+    unfolding valueKind
+    taken-word e l =
         let var : effectVar taken (actionCount G) e ≡ handedVar v e =
         rows-same (handedVar v) (effectVar taken (actionCount G)) (v .count) _ taken-list e l
         in
-        rw (receives, var)
-        (after-grown G h (new-receive v) tt .kinds (handedVar v e) (receive-was .var e l)
-        ∙ eqb-true _ _ (all-at (receivedFits t (q .0) G v) (v .count) e (taken-passed .1) l))
+        rw (receives, var) (after-grown G h (new-receive v) tt .kinds (handedVar v e) (receive-was .var e l))
 
-    taken-message : messageFits t (q .0) taken (actionCount G) ≡ true
-    unfolding messageFits valueFits
-    taken-message =
-        and-both (eq-eqb _ _ (taken-count ∙ taken-passed .0))
-        (all-from (valueFits t (q .0) taken (actionCount G)) (widthOf t (q .0))
-        (λ e l. eq-eqb _ _ (taken-value e (omega (arith, taken-passed .0)))))
+    -- the check of its variables passed: they are of the channel's kinds
+    module _ (check : receivedCheck t (q .0) G v ≡ Done.Accepted) where
+      taken-passed : (v .count ≡ widthOf t (q .0)) × (allBelow (v .count) (receivedFits t (q .0) G v) ≡ true)
+      unfolding receivedCheck varKnown
+      taken-passed =
+          fit-passed _ _ _
+          (read-passed (leb (v .count) messageRoom) (allBelow (v .count) (varKnown G v)) _ (le-leb _ _ (receive-was .few))
+          (all-from (varKnown G v) (v .count) (λ i l. lt-ltb _ _ (receive-was .var i l)))
+          check)
 
-    pub receive-fits : communicationFits t (communicationWord (On Receive q)) taken (actionCount G) ≡ true
-    unfolding messageFormed receiveFits
-    receive-fits = on-fits t Receive q taken (actionCount G) known (and-both receives taken-message)
+      taken-value : (e : ℕ) → e < v .count → valueKind taken (actionCount G) e ≡ channelKind t (q .0) e
+      unfolding receivedFits
+      taken-value e l = taken-word e l ∙ eqb-true _ _ (all-at (receivedFits t (q .0) G v) (v .count) e (taken-passed .1) l)
+
+      taken-message : messageFits t (q .0) taken (actionCount G) ≡ true
+      unfolding messageFits valueFits
+      taken-message =
+          and-both (eq-eqb _ _ (taken-count ∙ taken-passed .0))
+          (all-from (valueFits t (q .0) taken (actionCount G)) (widthOf t (q .0))
+          (λ e l. eq-eqb _ _ (taken-value e (omega (arith, taken-passed .0)))))
+
+      pub receive-fits : communicationFits t (communicationWord (On Receive q)) taken (actionCount G) ≡ true
+      unfolding messageFormed receiveFits
+      receive-fits = on-fits t Receive q taken (actionCount G) known (and-both receives taken-message)
 
   -- ---- a probe
   module _ (ok : answerOf G (new-send noValues 0) ≡ 0) where

@@ -95,14 +95,14 @@ module _ (t : List ℕ) (f : Formed t true) (small : graphCount t < graphRoom) w
   graph-messages g a l = counts-communications put-words counted g a l ∙ graph-communications (f .words) new put-there g a l
 
   -- it is empty
-  part : graphPart (withNewGraph t) new ≡ empty
+  pub part : graphPart (withNewGraph t) new ≡ empty
   part = counts-graph put-words counted new small ∙ with-graph-part t empty (f .words) new small (sound empty true empty-formed .words)
 
   new-formed : graphFormed (withNewGraph t) true new ≡ true
   unfolding graphFormed
   new-formed = rw part empty-formed
 
-  none : actionCount empty ≡ 0
+  pub none : actionCount empty ≡ 0
   none =
       sym (list-length (actionAt empty) (actionCount empty))
       ∙ ap (λ (g : Graph). length (g .actions)) (own.empty-reads (graphPart t new) size)

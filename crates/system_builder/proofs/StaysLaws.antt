@@ -57,7 +57,7 @@ kept-then {g} {h} {k} p q =
 message-then : {G H K : List ℕ} {a : ℕ} → MessageSame G H a → MessageSame H K a → MessageSame G K a
 message-then p q = record { count = q .count ∙ p .count; kind = λ e l. q .kind e (rw (p .count) l) ∙ p .kind e l }
 
-action-then : {G H K : List ℕ} {a : ℕ} → ActionSame G H a → ActionSame H K a → ActionSame G K a
+pub action-then : {G H K : List ℕ} {a : ℕ} → ActionSame G H a → ActionSame H K a → ActionSame G K a
 action-then x y =
     record {
       plain = y .plain ∙ x .plain;
@@ -77,7 +77,7 @@ module _ {t u v : List ℕ} where
         communication = λ a l. q .communication a (lt-of-lt-of-le l more) ∙ p .communication a l;
       }
 
-  channel-then : (q : ℕ) → ChannelStays t u q → ChannelStays u v q → ChannelStays t v q
+  pub channel-then : (q : ℕ) → ChannelStays t u q → ChannelStays u v q → ChannelStays t v q
   channel-then q x y =
       record {
         width = y .width ∙ x .width;

@@ -1,4 +1,5 @@
--- What holds of building a system.
+-- What holds of building a system. Further: BuildTheorems (`new` and `build`), KeptTheorems (a system stays well formed), KnownCalls (no 32),
+-- MeaningTheorems (what was there stays, what is added reads as it was handed), ExactTheorems (32 exactly where no calls build what is there).
 use Prim.Native.Nat.{ℕ, _+_, _-_, _≤_, _<_}
 use mathlib.Core.Bool.{true}
 use mathlib.Core.Path.{_≡_, refl, ap, _∙_}

@@ -5,3 +5,4 @@ pub mod ChannelLaws
 pub mod FreshLaws
 pub mod FreshParts
 pub mod Determined
+pub mod Theorems

@@ -23,7 +23,7 @@ use Rattle.system_tables.proofs.ElsewhereLaws.{Elsewhere}
 use Rattle.system_tables.proofs.FrameLaws.{CountsSame, ChannelSame, CommunicationsSame, GraphSame}
 use Rattle.system_tables.proofs.FrameLaws.{graph-counts, graph-channel, graph-communications, graph-graph}
 use Rattle.system_tables.proofs.FrameLaws.{with-graph-elsewhere, with-graph-part}
-use Rattle.system_tables.proofs.KeptLaws.{Formed, ActionSame, same-action, ChannelsGrown}
+use Rattle.system_tables.proofs.KeptLaws.{Formed, ActionSame, same-action, ChannelsGrown, rows-grown}
 use Rattle.system_tables.proofs.KeptLaws.{graph-kept, channel-kept, communications-kept}
 
 -- graph g of u is that of t, with its communications, or is well formed itself
@@ -46,7 +46,7 @@ few-actions t building g h = sound (graphPart t g) building h .counts .actions
 
 module _ (t u : List ℕ) (building : Bool) (f : Formed t building) (c : Carried t u building) where
   grown : ChannelsGrown t u
-  grown = record { more = c .more; row = c .row; few = λ q l. channel-narrow t q (f .channel q l) }
+  grown = rows-grown t u (c .more) (c .row) (λ q l. channel-narrow t q (f .channel q l))
 
   channel-carried : (q : ℕ) → q < channelCount u → channelFormed u q ≡ true
   channel-carried q l = by (ltb q (channelCount t)) refl
@@ -102,7 +102,7 @@ module _ (t new : List ℕ) (building : Bool) (f : Formed t building) (g : ℕ)
   rows q l = graph-channel (f .words) g changed q (lt-of-lt-of-le l (f .channels))
 
   channels : ChannelsGrown t (withGraph t g new)
-  channels = record { more = rw (counts .channels) (le-refl _); row = rows; few = λ q l. channel-narrow t q (f .channel q l) }
+  channels = rows-grown t (withGraph t g new) (rw (counts .channels) (le-refl _)) rows (λ q l. channel-narrow t q (f .channel q l))
 
   -- no action more, and each as it was: the communications fit as before
   pub same-actions : actionCount new ≡ actionCount (graphPart t g)

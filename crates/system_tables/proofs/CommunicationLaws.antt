@@ -8,7 +8,7 @@ use borrow.Author.Tests.{eqb-true, eqb-false}
 use lib.Dec.{eqb}
 use Rattle.graph_tables.specs.Messages.{isPlain, isSend, isReceive}
 use Rattle.system_tables.specs.Sizes.{noCommunication, sendMessage, fullMessage}
-use Rattle.system_tables.specs.Words.{channelCount, messagePart, channelPart, messageOf, messageWord, communicationIn}
+use Rattle.system_tables.specs.Words.{channelCount, messagePart, channelPart, messageOf, messageWord, communicationIn, communicationWord}
 use Rattle.system_tables.specs.Sound.{MessageSound, ProbeSound, CommunicationSound}
 use Rattle.system_tables.specs.declared.ids.Channel.{Channel}
 use Rattle.system_tables.specs.declared.ids.Message.{Message}
@@ -59,3 +59,14 @@ module _ {t : List ℕ} {w : ℕ} {G : List ℕ} {a : ℕ} (s : CommunicationSou
           let number : channelPart w ≡ q .0 = ap (λ (c : Channel). c .0) place in
           let kind : messagePart w ≡ messageWord m = sym (kind-back (messagePart w) (s .low some) (s .high some)) ∙ ap messageWord same in
           (rw number at (s .channel some), rw number at (says m kind))
+
+  -- the word is that of the communication that it stands for
+  pub word-back : communicationWord (communicationIn w) ≡ w
+  word-back = by (eqb w noCommunication) refl
+    where
+      by : (b : Bool) → eqb w noCommunication ≡ b → communicationWord (communicationIn w) ≡ w
+      by true e = rw e (sym (eqb-true w noCommunication e))
+      by false e =
+          let some : w ≡ noCommunication → ⊥ = eqb-false _ _ e in
+          let kind = kind-back (messagePart w) (s .low some) (s .high some) in
+          rw e (omega (arith, kind))

@@ -105,22 +105,31 @@ same-action G a =
     let same : MessageSame G G a = record { count = refl; kind = λ e l. refl } in
     record { plain = refl; send = refl; receive = refl; sent = λ h. same; received = λ h. same }
 
--- u has the channels of t, and perhaps more
+-- u has the channels of t, of the same kinds, and perhaps more
 pub record ChannelsGrown (t u : List ℕ) : Type 0 where
   pub more : channelCount t ≤ channelCount u
-  pub row : (q : ℕ) → q < channelCount t → ChannelSame t u q
-  pub few : (q : ℕ) → q < channelCount t → widthOf t q ≤ messageRoom
+  pub width : (q : ℕ) → q < channelCount t → widthOf u q ≡ widthOf t q
+  pub kind : (q e : ℕ) → q < channelCount t → e < widthOf t q → channelKind u q e ≡ channelKind t q e
+
+-- where their rows are the same
+pub rows-grown : (t u : List ℕ) → channelCount t ≤ channelCount u → ((q : ℕ) → q < channelCount t → ChannelSame t u q)
+    → ((q : ℕ) → q < channelCount t → widthOf t q ≤ messageRoom) → ChannelsGrown t u
+rows-grown t u more row few = record {
+  more = more;
+  width = λ q l. width-same t u q (row q l);
+  kind = λ q e l m. kind-same t u q (row q l) e (lt-of-lt-of-le m (few q l));
+}
 
 module _ (t u : List ℕ) {G H : List ℕ} {a : ℕ} (act : ActionSame G H a) where
-  module _ (q : ℕ) (row : ChannelSame t u q) (few : widthOf t q ≤ messageRoom) where
+  module _ (q : ℕ) (wide : widthOf u q ≡ widthOf t q) (kinds : (e : ℕ) → e < widthOf t q → channelKind u q e ≡ channelKind t q e) where
     message-kept : MessageSame G H a → messageFits t q G a ≡ true → messageFits u q H a ≡ true
     unfolding messageFits valueFits
     message-kept same h =
         let n : messageCount G a ≡ widthOf t q = eqb-true _ _ (and-first _ _ h) in
-        rw (same .count, width-same t u q row)
+        rw (same .count, wide)
         (and-kept (λ r. r)
         (all-kept (valueFits t q G a) (valueFits u q H a) (widthOf t q)
-        (λ e l f. rw (same .kind e (omega arith), kind-same t u q row e (omega arith)) f))
+        (λ e l f. rw (same .kind e (omega arith), kinds e l) f))
         h)
 
     send-kept : sendFits t q G a ≡ true → sendFits u q H a ≡ true
@@ -147,7 +156,7 @@ module _ (t u : List ℕ) {G H : List ℕ} {a : ℕ} (act : ActionSame G H a) wh
       (λ f.
       let known : channelPart w < channelCount t = ltb-true _ _ (and-first _ _ f) in
       and-both (lt-ltb _ _ (lt-of-lt-of-le known (grown .more)))
-      (formed-kept (channelPart w) (grown .row _ known) (grown .few _ known) (messagePart w) (and-rest _ _ f)))
+      (formed-kept (channelPart w) (grown .width _ known) (λ e. grown .kind _ e known) (messagePart w) (and-rest _ _ f)))
       h
 
 module _ {t u : List ℕ} (grown : ChannelsGrown t u) (g : ℕ) where

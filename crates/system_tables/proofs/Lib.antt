@@ -8,3 +8,4 @@ pub mod KeptLaws
 pub mod CarriedLaws
 pub mod CommunicationLaws
 pub mod Determined
+pub mod Theorems

@@ -5,3 +5,5 @@ pub mod Places
 pub mod Readings
 pub mod Signs
 pub mod Spelling
+pub mod Determined
+pub mod Theorems

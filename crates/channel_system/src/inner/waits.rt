@@ -9,10 +9,11 @@ use time;
 ghost use mathlib.Core.Path.{_≡_};
 ghost use mathlib.Core.Bool.{true};
 ghost use Rattle.laws.specs.Below.{allBelow, anyBelow};
+ghost use Rattle.run_steps.specs.Lowest.{lowest};
 ghost use Rattle.system_tables.specs.Words.{graphCount};
 ghost use Rattle.system_tables.specs.Sound.{SystemSound};
 ghost use Rattle.system_state.specs.Fits.{StateSound};
-ghost use Rattle.channel_system.specs.Waits.{clocksFit, graphHolds, graphWaits, laterOn, allFit, lowest, laterBelow, laterState};
+ghost use Rattle.channel_system.specs.Waits.{clocksFit, graphHolds, graphWaits, laterOn, allFit, laterBelow, laterState};
 ghost use Rattle.channel_system.specs.Waits.{waitOpen, systemWaits, passedOf};
 ghost use Rattle.channel_system.specs.Facts.{Fitting};
 

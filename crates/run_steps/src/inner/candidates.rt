@@ -1,4 +1,5 @@
 // Candidates of a step, and whether every process has one that passes.
+use crate::failures;
 use crate::inner::limits;
 use grammar::evaluation::Evaluated;
 use grammar::inner::evaluation;
@@ -13,7 +14,7 @@ ghost use Rattle.grammar.specs.Slots.{slotsOf};
 ghost use Rattle.graph_tables.specs.Sizes.{clockRoom, variableRoom};
 ghost use Rattle.graph_tables.specs.Words.{locationCount, transitionCount, preOf, actionOf, postOf};
 ghost use Rattle.graph_tables.specs.Sound.{Sound};
-ghost use Rattle.run_steps.specs.Steps.{satisfied, guardHolds, passesOf, leadsOf, readyOf};
+ghost use Rattle.run_steps.specs.Steps.{satisfied, guardHolds, failingOf, passesOf, leadsOf, readyOf};
 
 // A guard without a value is not satisfied.
 fn is_satisfied(items: &[u64], vars: &[u64]) -> bool
@@ -42,19 +43,31 @@ fn guard_holds(t: &[u64], k: usize, vars: &[u64]) -> bool
     is_satisfied(inner::guard_items(t, k), vars)
 }
 
-// Transition k passes: its limits on the clocks as they are, the invariants of its post-location on the clocks after.
+// What fails of transition k first: its guard, a limit on the clocks as they are, or an invariant of its post-location on the clocks after.
+pub fn failing(t: &[u64], vars: &[u64], clocks: &[u64], after: &[u64], k: usize) -> u64
+    requires { ⌜ Sound (now t) × (k < transitionCount (now t)) × (length (now vars) ≡ 2 * variableRoom) × (length (now clocks) ≡ clockRoom)
+        × (length (now after) ≡ clockRoom) ⌝ }
+    ensures { λ r. ⌜ r ≡ failingOf (now (t .entry)) (slotsOf (now (vars .entry))) (now (clocks .entry)) (now (after .entry)) k ⌝ }
+{
+    if !guard_holds(t, k, vars) {
+        return failures::GUARD;
+    }
+    if !limits::limits_hold(t, k, inner::limit_count(t, k), clocks) {
+        return failures::LIMIT;
+    }
+    if !limits::invariants_hold(t, inner::post_of(inner::key_of(t, k)), after) {
+        return failures::INVARIANT;
+    }
+    failures::NOTHING
+}
+
+// Transition k passes: nothing fails.
 pub fn passes(t: &[u64], vars: &[u64], clocks: &[u64], after: &[u64], k: usize) -> bool
     requires { ⌜ Sound (now t) × (k < transitionCount (now t)) × (length (now vars) ≡ 2 * variableRoom) × (length (now clocks) ≡ clockRoom)
         × (length (now after) ≡ clockRoom) ⌝ }
     ensures { λ r. ⌜ r ≡ passesOf (now (t .entry)) (slotsOf (now (vars .entry))) (now (clocks .entry)) (now (after .entry)) k ⌝ }
 {
-    if !guard_holds(t, k, vars) {
-        return false;
-    }
-    if !limits::limits_hold(t, k, inner::limit_count(t, k), clocks) {
-        return false;
-    }
-    limits::invariants_hold(t, inner::post_of(inner::key_of(t, k)), after)
+    failing(t, vars, clocks, after, k) == failures::NOTHING
 }
 
 // Transition k has a key, and it passes.

@@ -8,6 +8,7 @@ ghost use Rattle.laws.specs.Below.{allBelow};
 ghost use Rattle.graph_tables.specs.Sizes.{clockRoom, groupRoom, limitRoom};
 ghost use Rattle.graph_tables.specs.Words.{Words, clockOf, locationCount, clockCount};
 ghost use Rattle.graph_tables.specs.Sound.{Sound, LimitsSound};
+ghost use Rattle.run_steps.specs.Lowest.{lowest};
 ghost use Rattle.run_steps.specs.Steps.{limitHolds, limitsHold, invariantsHold, clockFits, shiftedBelow};
 
 // Limit i of a group holds.
@@ -22,17 +23,25 @@ fn limit_holds(t: &[u64], g: usize, i: usize, clocks: &[u64]) -> bool
     inner::upper_met(inner::upper_of(t, g, i), time)
 }
 
+// The first limit of a group that does not hold, n if there is none.
+pub fn first_unmet(t: &[u64], g: usize, n: usize, clocks: &[u64]) -> usize
+    requires { ⌜ Sound (now t) × (g < groupRoom) × LimitsSound (now t) g n × (length (now clocks) ≡ clockRoom) ⌝ }
+    ensures { λ r. ⌜ r ≡ lowest n (limitHolds (now (t .entry)) g (now (clocks .entry))) ⌝ }
+{
+    for i in 0..n {
+        if !limit_holds(t, g, i, clocks) {
+            return i;
+        }
+    }
+    n
+}
+
 // Every limit of a group holds.
 pub fn limits_hold(t: &[u64], g: usize, n: usize, clocks: &[u64]) -> bool
     requires { ⌜ Sound (now t) × (g < groupRoom) × LimitsSound (now t) g n × (length (now clocks) ≡ clockRoom) ⌝ }
     ensures { λ r. ⌜ r ≡ limitsHold (now (t .entry)) g n (now (clocks .entry)) ⌝ }
 {
-    for i in 0..n {
-        if !limit_holds(t, g, i, clocks) {
-            return false;
-        }
-    }
-    true
+    first_unmet(t, g, n, clocks) == n
 }
 
 // Every invariant of a location holds.

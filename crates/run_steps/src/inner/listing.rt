@@ -25,7 +25,7 @@ pub enum Sought {
 }
 
 // The clocks on which the invariants of post-locations are read. Communications have no resets, so their kind is not asked.
-fn reset_by(t: &[u64], action: u32, clocks: &mut [u64])
+pub fn reset_by(t: &[u64], action: u32, clocks: &mut [u64])
     requires { ⌜ Sound (now t) × (length (now clocks) ≡ clockRoom) ⌝ }
     ensures { λ _. ⌜ now (clocks .exit) ≡ clocksBy (now (t .entry)) action (now (clocks .entry)) ⌝ }
 {

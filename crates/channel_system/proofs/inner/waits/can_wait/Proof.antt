@@ -4,7 +4,7 @@ use borrow.Author.Needs.{needs}
 use Rattle.laws.proofs.BelowLaws.{and-yes, and-no}
 use Rattle.laws.proofs.Tests.{held, failed}
 use Rattle.channel_system.specs.Waits.{waitOpen}
-use Rattle.channel_system.proofs.LowestLaws.{lowest-tells}
+use Rattle.run_steps.proofs.LowestLaws.{lowest-tells}
 use Rattle.channel_system.proofs.inner.waits.can_wait.Statement.{statement}
 use Rattle.channel_system.proofs.inner.waits.can_wait.Tie as tie
 

@@ -8,7 +8,7 @@ use Rattle.laws.proofs.BelowLaws.{all-none, all-more, all-done}
 use Rattle.laws.proofs.Tests.{held, failed}
 use Rattle.system_tables.specs.Words.{graphCount}
 use Rattle.channel_system.specs.Waits.{graphHolds}
-use Rattle.channel_system.proofs.LowestLaws.{lowest-none, lowest-at}
+use Rattle.run_steps.proofs.LowestLaws.{lowest-none, lowest-at}
 use Rattle.channel_system.proofs.LaterLaws.{clock-fits}
 use Rattle.channel_system.proofs.inner.waits.objector.Statement.{statement}
 use Rattle.channel_system.proofs.inner.waits.objector.Tie as tie

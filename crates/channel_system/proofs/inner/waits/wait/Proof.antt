@@ -8,9 +8,10 @@ use Rattle.laws.specs.Ladder.{unless}
 use Rattle.laws.specs.Below.{allBelow}
 use Rattle.laws.proofs.Tests.{held, failed}
 use Rattle.system_tables.specs.Words.{graphCount}
-use Rattle.channel_system.specs.Waits.{graphHolds, lowest, passedOf}
+use Rattle.run_steps.specs.Lowest.{lowest}
+use Rattle.channel_system.specs.Waits.{graphHolds, passedOf}
 use Rattle.channel_system.specs.declared.answers.Waited.the-variants.{Invariant}
-use Rattle.channel_system.proofs.LowestLaws.{lowest-says, lowest-all, lowest-some}
+use Rattle.run_steps.proofs.LowestLaws.{lowest-says, lowest-all, lowest-some}
 use Rattle.channel_system.proofs.inner.waits.wait.Statement.{statement}
 use Rattle.channel_system.proofs.inner.waits.wait.Tie as tie
 

@@ -10,7 +10,7 @@ use borrow.Author.Tests.{lt-ltb, le-ltb, eq-eqb, ne-eqb}
 use Rattle.laws.specs.Below.{_and_, allBelow}
 use Rattle.laws.proofs.Tests.{never}
 use Rattle.laws.proofs.BelowLaws.{and-first, and-rest, and-both, all-at, all-fails}
-use Rattle.channel_system.specs.Waits.{lowest}
+use Rattle.run_steps.specs.Lowest.{lowest}
 
 -- what is said of k
 pub record Lowest (n : ℕ) (p : ℕ → Bool) (k : ℕ) : Type 0 where
