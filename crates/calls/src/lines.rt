@@ -14,6 +14,7 @@ use system_builder;
 use text::lines;
 use text::ranges;
 use text::tokens;
+use why_lines::regions;
 
 // Room for the longest answer, a state that is shown whole.
 const ANSWER: usize = 10000;
@@ -53,6 +54,36 @@ fn on_system(line: &[u8], at: usize, s: &mut [u64], state: &mut [u64], out: &mut
     done(out, system_builder::new(s))
 }
 
+// With a new state the tables of the explainer are copied.
+fn renew(line: &[u8], at: usize, s: &[u64], guards: &mut [u64], limits: &mut [u64]) {
+    if !tokens::is(tokens::token(line, at), b"new") {
+        return;
+    }
+    if !tokens::ended(line, tokens::next(line, at)) {
+        return;
+    }
+    regions::copy_tables(s, guards, limits);
+}
+
+// Lines on the state.
+fn on_state(
+    line: &[u8],
+    at: usize,
+    s: &[u64],
+    state: &mut [u64],
+    guards: &mut [u64],
+    limits: &mut [u64],
+    out: &mut [u8],
+) -> usize {
+    let verb = tokens::token(line, at);
+    let next = tokens::next(line, at);
+    if tokens::is(verb, b"why") {
+        return why_lines::why::answer(line, next, s, state, guards, limits, out);
+    }
+    renew(line, at, s, guards, limits);
+    system_lines::running::answer(line, at, s, state, out)
+}
+
 // Lines on a range or an expression alone.
 fn on_values(line: &[u8], name: &[u8], at: usize, out: &mut [u8]) -> usize {
     if tokens::is(name, b"range") {
@@ -78,16 +109,18 @@ fn on_words(
     t: &mut [u64],
     s: &mut [u64],
     state: &mut [u64],
+    guards: &mut [u64],
+    limits: &mut [u64],
     out: &mut [u8],
 ) -> usize {
     if tokens::is(name, b"s") {
         return on_system(line, at, s, state, out);
     }
     if tokens::is(name, b"t") {
-        return system_lines::running::answer(line, at, s, state, out);
+        return on_state(line, at, s, state, guards, limits, out);
     }
     if tokens::is(name, b"poke") {
-        return table::poke(line, at, t, s, state, out);
+        return table::poke(line, at, t, s, state, guards, limits, out);
     }
     if tokens::is(name, b"sum") {
         return table::sum(line, at, t, s, state, out);
@@ -100,6 +133,8 @@ fn answer(
     t: &mut [u64],
     s: &mut [u64],
     state: &mut [u64],
+    guards: &mut [u64],
+    limits: &mut [u64],
     run: ProgramGraphRun,
     out: &mut [u8],
 ) -> Answered {
@@ -112,7 +147,7 @@ fn answer(
         return running::answer(line, at, t, run, out);
     }
     Answered {
-        length: on_words(line, name, at, t, s, state, out),
+        length: on_words(line, name, at, t, s, state, guards, limits, out),
         run,
     }
 }
@@ -124,6 +159,8 @@ fn tell(
     t: &mut [u64],
     s: &mut [u64],
     state: &mut [u64],
+    guards: &mut [u64],
+    limits: &mut [u64],
     run: ProgramGraphRun,
 ) -> ProgramGraphRun {
     let mut out = [0u8; ANSWER];
@@ -132,7 +169,16 @@ fn tell(
         io::write_all(STDOUT_FILENO, tokens::part(&out, count));
         return run;
     }
-    let answered = answer(tokens::part(line, length), t, s, state, run, &mut out);
+    let answered = answer(
+        tokens::part(line, length),
+        t,
+        s,
+        state,
+        guards,
+        limits,
+        run,
+        &mut out,
+    );
     io::write_all(STDOUT_FILENO, tokens::part(&out, answered.length));
     let next = answered.run;
     next
@@ -145,6 +191,8 @@ pub fn answer_all(
     t: &mut [u64],
     s: &mut [u64],
     state: &mut [u64],
+    guards: &mut [u64],
+    limits: &mut [u64],
 ) {
     let mut run = fresh::no_run();
     let mut reader = lines::start();
@@ -154,7 +202,7 @@ pub fn answer_all(
         if !reader.whole {
             return;
         }
-        run = tell(line, reader.length, t, s, state, run);
+        run = tell(line, reader.length, t, s, state, guards, limits, run);
         turns -= 1;
     }
 }

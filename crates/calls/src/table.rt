@@ -27,13 +27,15 @@ fn poke_at(line: &[u8], at: usize, t: &mut [u64], out: &mut [u8]) -> usize {
     write(t, n as usize, word, out)
 }
 
-// poke g N W, poke s N W, poke t N W
+// poke g N W, poke s N W, poke t N W, and of the explainer's tables poke guards N W, poke limits N W
 pub fn poke(
     line: &[u8],
     at: usize,
     t: &mut [u64],
     s: &mut [u64],
     state: &mut [u64],
+    guards: &mut [u64],
+    limits: &mut [u64],
     out: &mut [u8],
 ) -> usize {
     let name = tokens::token(line, at);
@@ -46,6 +48,12 @@ pub fn poke(
     }
     if tokens::is(name, b"t") {
         return poke_at(line, next, state, out);
+    }
+    if tokens::is(name, b"guards") {
+        return poke_at(line, next, guards, out);
+    }
+    if tokens::is(name, b"limits") {
+        return poke_at(line, next, limits, out);
     }
     text::answers::bad(out)
 }

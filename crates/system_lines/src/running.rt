@@ -1,5 +1,6 @@
 // Lines on the state of a system, whose table is lent beside it.
 use crate::answers;
+use crate::replaying;
 use crate::showing;
 use crate::stepping;
 use channel_system::readers;
@@ -90,6 +91,9 @@ pub fn answer(line: &[u8], at: usize, t: &[u64], s: &mut [u64], out: &mut [u8]) 
     }
     if tokens::is(verb, b"step") {
         return stepping::step(line, second, t, s, out);
+    }
+    if tokens::is(verb, b"replay") {
+        return replaying::replay(line, second, t, s, out);
     }
     if tokens::ended(line, tokens::next(line, second)) {
         return numbered(line, verb, second, t, s, out);

@@ -101,7 +101,7 @@ impl fmt::Display for Shown {
 }
 
 /// An end of a range as the line language writes it.
-struct Limit(Bound<u32>);
+pub(crate) struct Limit(pub(crate) Bound<u32>);
 
 impl fmt::Display for Limit {
     fn fmt(&self, f: &mut fmt::Formatter<'_>) -> fmt::Result {

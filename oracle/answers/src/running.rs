@@ -114,6 +114,11 @@ pub fn overflows(run: &Run, delta: u32) -> bool {
         .any(|clock| clock.checked_add(delta).is_none())
 }
 
+/// A guard without a value is not satisfied.
+pub fn guard_holds(graph: &Graph, run: &Run, guard: Option<&Items>) -> bool {
+    On { graph, run }.guard_holds(guard)
+}
+
 struct On<'a> {
     graph: &'a Graph,
     run: &'a Run,

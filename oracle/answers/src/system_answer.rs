@@ -3,6 +3,7 @@
 use crate::answer::{Answer, EPSILON, Shown};
 use crate::running::Run;
 use crate::system_table::{Capacity, Kind, Parts};
+use crate::why::Cause;
 use scan_core::{Type, Val};
 use std::fmt;
 
@@ -17,6 +18,12 @@ pub enum SystemAnswer {
     Channel(Vec<Type>, Capacity),
     Run(Box<Run>),
     State(Box<Parts>),
+    /// 8, the process that a cause is of, and the cause.
+    Why(usize, Cause),
+    /// A replay: the bad block.
+    Block(usize),
+    /// Block, record, recorded number, given number.
+    Record(usize, usize, u32, u32),
 }
 
 impl SystemAnswer {
@@ -41,6 +48,7 @@ impl fmt::Display for SystemAnswer {
                 write!(f, "ok {graph} {channel} {}", kind.name())?;
                 values(f, vals)
             }
+            SystemAnswer::Why(process, cause) => write!(f, "refused 8 {process} {cause}"),
             SystemAnswer::Objects(graph) => write!(f, "refused 9 {graph}"),
             SystemAnswer::Entry(graph, EPSILON, process, post) => {
                 write!(f, "ok {graph} e {process} {post}")
@@ -61,6 +69,10 @@ impl fmt::Display for SystemAnswer {
                     Capacity::Unbounded => f.write_str(" q*"),
                     Capacity::Sink => f.write_str(" sink"),
                 }
+            }
+            SystemAnswer::Block(block) => write!(f, "block {block}"),
+            SystemAnswer::Record(block, record, recorded, given) => {
+                write!(f, "record {block} {record} {recorded} {given}")
             }
             SystemAnswer::Run(run) => write!(f, "ok {}", shown_run(run)),
             SystemAnswer::State(parts) => {

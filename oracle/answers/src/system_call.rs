@@ -3,6 +3,7 @@
 use crate::answer::EPSILON;
 use crate::call::{Building, Items, MOST_OTHERS, MOST_POSTS, Tokens, number, wide};
 use crate::system_table::{Capacity, Kind, STATE_WORDS, SYSTEM_WORDS};
+use crate::why::{ALL_GUARDS, ALL_LIMITS};
 use scan_core::Type;
 
 #[derive(Debug, Clone, PartialEq, Eq)]
@@ -18,16 +19,20 @@ pub enum SystemCall {
     Build,
     NewState,
     Running(SystemRunning),
+    Why(Step),
+    Replay(Vec<u8>),
     Show,
     Poke(Lent, usize, u64),
     Sum(Lent),
 }
 
-/// Which of the two lent slices of words.
+/// Which of the lent slices of words: the table, the state, and the two tables of the explainer.
 #[derive(Debug, Clone, Copy, PartialEq, Eq)]
 pub enum Lent {
     Table,
     State,
+    Guards,
+    Limits,
 }
 
 #[derive(Debug, Clone, PartialEq, Eq)]
@@ -38,6 +43,9 @@ pub enum SystemBuilding {
     Receive(u32, Vec<u32>),
     Probe(u32, Kind),
 }
+
+/// The longest recording of a line.
+const MOST_DIGITS: usize = 4000;
 
 /// A number of a graph with a number of that graph.
 pub type Pair = (u32, u32);
@@ -98,13 +106,9 @@ impl Tokens<'_> {
         let running = match self.next()? {
             b"new" => return Some(SystemCall::NewState),
             b"show" => return Some(SystemCall::Show),
-            b"step" => SystemRunning::Step(Step {
-                graph: self.number()?,
-                action: pair(self.next()?, true)?,
-                posts: self
-                    .between(b"(", b")", MOST_POSTS, |tokens| pair(tokens.next()?, false))?,
-                word: wide(self.next()?)?,
-            }),
+            b"replay" => return Some(SystemCall::Replay(recording(self.next()?)?)),
+            b"step" => SystemRunning::Step(self.step()?),
+            b"why" => return self.step().map(SystemCall::Why),
             b"wait" => SystemRunning::Wait(self.number()?),
             b"can" => SystemRunning::Can(self.number()?),
             b"waiting" => SystemRunning::Waiting,
@@ -119,13 +123,32 @@ impl Tokens<'_> {
         Some(SystemCall::Running(running))
     }
 
+    fn step(&mut self) -> Option<Step> {
+        Some(Step {
+            graph: self.number()?,
+            action: pair(self.next()?, true)?,
+            posts: self.between(b"(", b")", MOST_POSTS, |tokens| pair(tokens.next()?, false))?,
+            word: wide(self.next()?)?,
+        })
+    }
+
     pub(crate) fn system_poke(&mut self) -> Option<SystemCall> {
-        let lent = self.lent()?;
+        let lent = if self.comes(b"guards") {
+            self.next();
+            Lent::Guards
+        } else if self.comes(b"limits") {
+            self.next();
+            Lent::Limits
+        } else {
+            self.lent()?
+        };
         let place = self.number()? as usize;
         let word = wide(self.next()?)?;
         let words = match lent {
             Lent::Table => SYSTEM_WORDS,
             Lent::State => STATE_WORDS,
+            Lent::Guards => ALL_GUARDS,
+            Lent::Limits => ALL_LIMITS,
         };
         (place < words).then_some(SystemCall::Poke(lent, place, word))
     }
@@ -163,6 +186,23 @@ fn capacity(token: &[u8]) -> Option<Capacity> {
         [b'q', rest @ ..] => number(rest).map(Capacity::Bounded),
         _ => None,
     }
+}
+
+/// Two digits a byte; `-` for no bytes.
+fn recording(token: &[u8]) -> Option<Vec<u8>> {
+    if token == b"-" {
+        return Some(vec![]);
+    }
+    let good = (1..=MOST_DIGITS).contains(&token.len()) && token.len() % 2 == 0;
+    let digit = |byte: &u8| match byte {
+        b'0'..=b'9' => Some(byte - b'0'),
+        b'a'..=b'f' => Some(byte - b'a' + 10),
+        _ => None,
+    };
+    let bytes = token
+        .chunks(2)
+        .map(|pair| Some(digit(&pair[0])? * 16 + digit(pair.get(1)?)?));
+    bytes.collect::<Option<_>>().filter(|_| good)
 }
 
 /// `G:N`; of an action `G:e` too.

@@ -6,6 +6,7 @@ use crate::expression;
 use crate::oracle::{
     Disagreement, Mark, Replied, Reply, both, by_both, by_rules, departing, differs,
 };
+use crate::recording;
 use crate::rust::Outcome;
 use crate::system_answer::SystemAnswer;
 use crate::system_building as building;
@@ -14,6 +15,7 @@ use crate::system_running as running;
 use crate::system_rust::{self, Left, RustSystem, SystemOutcome};
 use crate::system_table::{Capacity, Channel, Kind, ROOM, State, StateWords, System, SystemTable};
 use crate::table::Action;
+use crate::why::{self, Tables};
 
 pub struct Systems {
     table: SystemTable,
@@ -24,6 +26,8 @@ pub struct Systems {
     state: StateWords,
     /// The state came from the Rust, without a draw.
     compared: bool,
+    /// What the explainer is lent, copied with each new state.
+    tables: Tables,
 }
 
 impl Systems {
@@ -34,6 +38,7 @@ impl Systems {
             rust: Some(RustSystem::default()),
             state: StateWords::default(),
             compared: false,
+            tables: Tables::default(),
         }
     }
 
@@ -42,6 +47,16 @@ impl Systems {
             SystemCall::New => self.new_system(),
             SystemCall::Poke(Lent::Table, place, word) => self.poke_table(*place, *word),
             SystemCall::Poke(Lent::State, place, word) => self.poke_state(*place, *word),
+            SystemCall::Poke(Lent::Guards, place, word) => {
+                self.tables.guards[*place] = *word;
+                by_rules(Answer::Ok)
+            }
+            SystemCall::Poke(Lent::Limits, place, word) => {
+                self.tables.limits[*place] = *word;
+                by_rules(Answer::Ok)
+            }
+            SystemCall::Sum(Lent::Guards | Lent::Limits) => by_rules(Answer::BadLine),
+            SystemCall::Why(step) => self.why(step),
             SystemCall::Sum(Lent::Table) => by_rules(Answer::Sum(self.table.sum())),
             SystemCall::Sum(Lent::State) => by_rules(Answer::Sum(self.state.sum())),
             SystemCall::Graph
@@ -49,8 +64,13 @@ impl Systems {
             | SystemCall::Building(..)
             | SystemCall::Kind(..)
             | SystemCall::Build => self.on_table(call),
-            SystemCall::Capacity(_) | SystemCall::NewState => self.on_built(call),
+            SystemCall::NewState => {
+                self.tables.copy(&self.table);
+                self.on_built(call)
+            }
+            SystemCall::Capacity(_) => self.on_built(call),
             SystemCall::Running(running) => self.running(running),
+            SystemCall::Replay(bytes) => self.replay(bytes),
             SystemCall::Show => self.show(),
         }
     }
@@ -259,10 +279,64 @@ impl Systems {
         reply
     }
 
+    /// The calls of the records one by one. A finding undoes all.
+    fn replay(&mut self, bytes: &[u8]) -> Replied {
+        if self.good_state().is_none() {
+            return by_rules(Answer::Refused(32));
+        }
+        let kept = (self.state.clone(), self.compared);
+        let reply = self.replayed(bytes);
+        if !matches!(&reply, Ok(reply) if reply.answer.accepted()) {
+            (self.state, self.compared) = kept;
+        }
+        reply
+    }
+
+    /// It is the Rust's where every call that was made is.
+    fn replayed(&mut self, bytes: &[u8]) -> Replied {
+        let (mut mark, mut made) = (Mark::Rust, 0);
+        let reply = |mark, answer| {
+            Ok(Reply {
+                mark,
+                answer,
+                departs: None,
+            })
+        };
+        for (b, block) in bytes.chunks(recording::BLOCK).enumerate() {
+            let last = bytes.len() <= (b + 1) * recording::BLOCK;
+            let Some(records) = recording::block(block, b, last) else {
+                return reply(Mark::Rules, Answer::System(SystemAnswer::Block(b)));
+            };
+            for (i, record) in records.iter().enumerate() {
+                let made_call = self.running(&record.call)?;
+                let (given, recorded) = (number_of(&made_call.answer), u32::from(record.recorded));
+                if made_call.mark == Mark::Rules {
+                    mark = Mark::Rules;
+                }
+                if given != recorded {
+                    let differs = SystemAnswer::Record(b, i, recorded, given);
+                    return reply(mark, Answer::System(differs));
+                }
+                made += 1;
+            }
+        }
+        reply(mark, Answer::Number(made))
+    }
+
     /// None where the table or the state answers 32.
     fn good_state(&self) -> Option<State> {
         let system = self.system.as_ref().filter(|system| system.runs())?;
         self.state.state(system)
+    }
+
+    /// The Rust has no such call.
+    fn why(&self, step: &Step) -> Replied {
+        match (self.good_state(), &self.system) {
+            (Some(state), Some(system)) => {
+                by_rules(why::why(&self.tables, &self.table, system, &state, step))
+            }
+            _ => by_rules(Answer::Refused(32)),
+        }
     }
 
     fn show(&self) -> Replied {
@@ -281,6 +355,15 @@ impl Systems {
 impl Default for Systems {
     fn default() -> Self {
         Systems::new()
+    }
+}
+
+/// The paper's number of an answer, 0 for ok.
+fn number_of(answer: &Answer) -> u32 {
+    match answer {
+        Answer::Refused(number) => *number,
+        Answer::System(SystemAnswer::Objects(_)) => 9,
+        _ => 0,
     }
 }
 

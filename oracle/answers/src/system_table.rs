@@ -211,6 +211,11 @@ impl SystemTable {
         }
     }
 
+    /// The words of graph g alone.
+    pub fn graph_words(&self, g: usize) -> &[u64] {
+        self.graphs[g].words()
+    }
+
     pub fn sum(&self) -> u64 {
         let mut sum = weighted(&self.head, 0);
         for (g, graph) in self.graphs.iter().enumerate() {
@@ -421,6 +426,7 @@ impl Queue {
 }
 
 /// The state's words.
+#[derive(Clone)]
 pub struct StateWords {
     words: Vec<u64>,
 }

@@ -13,6 +13,7 @@ mod parts;
 mod pokes;
 pub mod programs;
 mod readers;
+mod recordings;
 mod runs;
 pub mod sample;
 pub mod script;

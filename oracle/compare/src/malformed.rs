@@ -137,7 +137,7 @@ const ODD: [&str; 84] = [
 ];
 
 /// Lines that look like those of the layer above, and are none there either.
-pub const ABOVE: [&str; 16] = [
+pub const ABOVE: [&str; 20] = [
     "s",
     "s new 0",
     "s graph 1",
@@ -151,6 +151,10 @@ pub const ABOVE: [&str; 16] = [
     "t step 0 0:0 ( 0 ) 0",
     "t wait -1",
     "t queue 0",
+    "t replay",
+    "t replay 0",
+    "t replay 0G",
+    "t replay - 0",
     "poke s 375434 0",
     "poke t 1417 0",
     "sum r",

@@ -2,6 +2,7 @@
 
 use crate::graph::{Bound, Build, EPSILON, Graph, Kind, Limit, Val, expression};
 use crate::maker::Maker;
+use crate::recordings::Record;
 use crate::system_model::{Capacity, Channel, Message, System};
 
 /// A script about one system in the making.
@@ -15,6 +16,8 @@ pub struct SystemMaker<'a> {
     pub rings: Vec<(u32, u32)>,
     /// How often a way of a graph was taken.
     pub chosen: std::collections::BTreeMap<(usize, u32), usize>,
+    /// The first calls since the last start, as records.
+    pub made: Vec<Record>,
 }
 
 impl<'a> SystemMaker<'a> {
@@ -26,6 +29,7 @@ impl<'a> SystemMaker<'a> {
             places: vec![],
             rings: vec![],
             chosen: Default::default(),
+            made: vec![],
         }
     }
 
@@ -35,6 +39,7 @@ impl<'a> SystemMaker<'a> {
         self.places.clear();
         self.rings.clear();
         self.chosen.clear();
+        self.made.clear();
     }
 
     pub fn new_graph(&mut self) -> bool {

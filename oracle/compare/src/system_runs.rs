@@ -2,6 +2,7 @@
 //! misses, steps with parts of other graphs, and questions.
 
 use crate::graph::{EPSILON, action_text};
+use crate::recordings;
 use crate::runs::entry;
 use crate::system_building::SystemMaker;
 use crate::system_model::{Capacity, Message, State};
@@ -23,6 +24,7 @@ impl SystemMaker<'_> {
             self.maker.say("t show");
         }
         let ok = self.maker.say("t new") == "ok";
+        self.made.clear();
         if ok {
             self.places = self
                 .system
@@ -59,7 +61,9 @@ impl SystemMaker<'_> {
             62..=74 => self.guided_wait(),
             75..=76 => self.random_wait(),
             77..=79 => self.refused_between_sums(),
-            80..=97 => self.question(),
+            80..=96 => self.question(),
+            97 if self.made.len() > 3 => self.recordings(),
+            97 => self.question(),
             98 => {
                 let line = *self.maker.chance.pick(&crate::malformed::ABOVE);
                 self.maker.say(line);
@@ -155,11 +159,16 @@ impl SystemMaker<'_> {
     /// A step with any numbers; what it changed is noted.
     fn step(&mut self, graph: u32, action: (u32, u32), posts: &[(u32, u32)]) -> String {
         let word = self.maker.draw_word();
-        let mut line = format!("t step {graph} {}:{} (", action.0, action_text(action.1));
+        let mut asked = format!("{graph} {}:{} (", action.0, action_text(action.1));
         for (g, post) in posts {
-            line += &format!(" {g}:{post}");
+            asked += &format!(" {g}:{post}");
         }
-        let answer = self.maker.say_call(format!("{line} ) {word}"));
+        let answer = self.maker.say_call(format!("t step {asked} ) {word}"));
+        // Why it said 8, and now and then what is told of the next step.
+        if answer == "refused 8" || self.maker.chance.percent(10) {
+            self.maker.say_call(format!("t why {asked} ) {word}"));
+        }
+        self.note(recordings::step(graph, action, posts, word), &answer);
         if answer.starts_with("ok") && (graph as usize) < self.places.len() {
             self.places[graph as usize] = posts.iter().map(|post| post.1).collect();
             self.moved(&answer);
@@ -402,11 +411,17 @@ impl SystemMaker<'_> {
         for _ in 0..3 {
             let delta = *self.maker.chance.pick(&[1, 1, 1, 2, 2, 3, 5]);
             if self.maker.ask(&format!("t can {delta}")) == "yes" {
-                self.maker.say_call(format!("t wait {delta}"));
+                self.wait(delta);
                 return;
             }
         }
         self.reset_some_clocks();
+    }
+
+    fn wait(&mut self, delta: u32) -> String {
+        let answer = self.maker.say_call(format!("t wait {delta}"));
+        self.note(Some(recordings::wait(delta)), &answer);
+        answer
     }
 
     fn wait_to_edge(&mut self) {
@@ -414,15 +429,15 @@ impl SystemMaker<'_> {
             .rev()
             .find(|delta| self.maker.ask(&format!("t can {delta}")) == "yes")
         else {
-            self.maker.say("t wait 0");
+            self.wait(0);
             return;
         };
         if self.maker.chance.percent(40) {
             self.maker.say(format!("t can {most}"));
             self.maker.say(format!("t can {}", most + 1));
         }
-        self.maker.say(format!("t wait {most}"));
-        let answer = self.maker.say(format!("t wait {}", 1));
+        self.wait(most);
+        let answer = self.wait(1);
         // The graph that objects moves, so that another one objects next.
         if let Some(g) = answer
             .strip_prefix("refused 9 ")
@@ -431,7 +446,7 @@ impl SystemMaker<'_> {
             && let Some(way) = self.near_way(g, Some(0))
         {
             self.take(&way);
-            self.maker.say("t wait 1");
+            self.wait(1);
         }
     }
 
@@ -450,7 +465,7 @@ impl SystemMaker<'_> {
         if self.maker.chance.percent(40) {
             self.maker.say_call(format!("t can {delta}"));
         }
-        self.maker.say_call(format!("t wait {delta}"));
+        self.wait(delta);
         if delta > 1000 && self.maker.chance.percent(50) {
             self.question();
             self.start();
@@ -465,7 +480,7 @@ impl SystemMaker<'_> {
                 0 => self.near_step(),
                 1 => self.random_step(),
                 _ => {
-                    self.maker.say("t wait 4294967295");
+                    self.wait(u32::MAX);
                 }
             }
         }

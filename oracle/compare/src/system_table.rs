@@ -6,7 +6,7 @@ use std::fmt::Write;
 use crate::system_model::queue_row;
 
 /// The calls of the channel layer, in the order of the table.
-pub const SYSTEM_CALLS: [&str; 36] = [
+pub const SYSTEM_CALLS: [&str; 38] = [
     "s new",
     "s graph",
     "s channel",
@@ -29,6 +29,7 @@ pub const SYSTEM_CALLS: [&str; 36] = [
     "s kind",
     "t new",
     "t step",
+    "t why",
     "t wait",
     "t can",
     "t waiting",
@@ -38,6 +39,7 @@ pub const SYSTEM_CALLS: [&str; 36] = [
     "t time",
     "t run",
     "t queue",
+    "t replay",
     "t show",
     "poke s",
     "poke t",

@@ -1,0 +1,10 @@
+pub mod CandidateLaws
+pub mod FailureLaws
+pub mod SameLaws
+pub mod ReadyLaws
+pub mod EightLaws
+pub mod CauseTheorems
+pub mod WhyLaws
+pub mod EqualLaws
+pub mod Theorems
+pub mod Determined

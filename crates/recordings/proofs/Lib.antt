@@ -1,0 +1,10 @@
+pub mod NumberLaws
+pub mod RecordLaws
+pub mod BlockLaws
+pub mod StoreLaws
+pub mod DigitLaws
+pub mod PartLaws
+pub mod RecordWriting
+pub mod WritingLaws
+pub mod PutLaws
+pub mod Theorems

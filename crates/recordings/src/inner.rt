@@ -1,0 +1,3 @@
+pub mod numbers;
+pub mod records;
+pub mod writes;

@@ -1,0 +1,3 @@
+pub mod PlayLaws
+pub mod Walks
+pub mod ReplayTheorems

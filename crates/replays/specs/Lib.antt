@@ -1,0 +1,4 @@
+pub mod Facts
+pub mod Replay
+pub mod Recorded
+pub mod Made

@@ -1,0 +1,3 @@
+pub mod blocks;
+pub mod calls;
+pub mod numbers;
