@@ -4,9 +4,10 @@
     tools/hostile.py [--port COMMAND] [--rounds N] [--seed S]
 
 Each round builds a system and makes its state, then spoils words of both (`poke s`, `poke t`), hands over tables that have changed under
-their state, and makes calls with any numbers. After each call it asks for the sums of both. A refusal, and a call that only
-reads, has to leave them; no call may write a table by running, or a state by building; every line has to be answered. The last line says
-how many calls there were.
+their state, and makes calls with any numbers. A refusal, and a call that only reads, has to leave every word; no call may write a table by
+running, or a state by building; every line has to be answered. The lines are put twice: the second time the sum of a table's or a state's words is
+asked before and behind each row of calls that have to leave it, and the two have to be the same. Rounds follow each other on the same words, so
+that each finds what others left. The last line says how many calls there were.
 """
 import argparse
 import collections
@@ -18,7 +19,8 @@ WORDS = 375434
 STATE = 1417
 GRAPH_START, GRAPH_WORDS = 58, 46922
 LAST = 2**32 - 1
-READERS = ("can", "waiting", "list", "pg", "solo", "time", "run", "queue", "show")
+TOGETHER = 50
+READERS = ("can", "waiting", "list", "pg", "solo", "time", "run", "queue", "show", "build", "capacity")
 
 
 def number(chance):
@@ -125,39 +127,55 @@ def round_of(chance):
     return lines
 
 
-def spaced(lines):
-    """With both sums after each line."""
-    return [part for line in lines for part in (line, "sum s", "sum t")]
+def leaves(words, line, answer):
+    """Whether a line has to leave the words of the table (s) or of the state (t)."""
+    first, *rest = line.split()
+    if line == "s new":  # starts both anew
+        return False
+    if first == "poke":
+        return rest[0] != words
+    if first != words:
+        return True
+    return not answer.startswith("ok") or rest[0] in READERS or rest[-2:-1] == ["kind"]
 
 
-def wrong(line, answer, before, after):
-    """What is wrong with the sums around a line, if anything."""
-    words = line.split()
-    if words[0] == "poke" or line == "s new":
-        return None
-    if not answer.startswith("ok") and before != after:
-        return "changed a word without being accepted"
-    if words[0] == "t" and before[0] != after[0]:
-        return "changed the table by running"
-    if words[0] == "s" and before[1] != after[1]:
-        return "changed the state by building"
-    if words[0] == "t" and words[1] in READERS and before != after:
-        return "changed a word by reading"
-    return None
+def answers(port, lines):
+    told = subprocess.run(port.split(), input="".join(f"{line}\n" for line in lines), capture_output=True, text=True, check=False)
+    if told.returncode != 0:
+        sys.exit(f"it ended with {told.returncode} on:\n" + "\n".join(lines))
+    if len(told.stdout.splitlines()) != len(lines):
+        sys.exit("it stopped at a line of:\n" + "\n".join(lines))
+    return told.stdout.splitlines()
 
 
-def look(lines, answers, counts):
-    if len(answers) != 3 * len(lines):
-        sys.exit(f"{len(answers)} answers to {3 * len(lines)} lines: it stopped before {lines[min(len(answers) // 3, len(lines) - 1)]!r}")
-    before = None
+def with_sums(lines, told):
+    """The lines, with a sum where a row of those that have to leave its words begins and where it ends."""
+    left = {words: [leaves(words, *pair) for pair in zip(lines, told)] for words in "st"}
+    out = []
     for at, line in enumerate(lines):
-        answer, after = answers[3 * at], (answers[3 * at + 1], answers[3 * at + 2])
-        said = before and wrong(line, answer, before, after)
-        if said:
-            sys.exit(f"line {at + 1} of the round, {line!r}, answered {answer!r} and {said}:\n" + "\n".join(lines[: at + 1]))
+        out.append(line)
+        out += [f"sum {words}" for words in "st" if at + 1 == len(lines) or left[words][at] != left[words][at + 1]]
+    return out, left
+
+
+def look(port, lines, counts):
+    told = answers(port, lines)
+    put, left = with_sums(lines, told)
+    again = answers(port, put)
+    if [answer for line, answer in zip(put, again) if not line.startswith("sum")] != told:
+        sys.exit("it answered otherwise when it was asked for sums:\n" + "\n".join(put))
+    at, sums = -1, {"s": None, "t": None}
+    for line, answer in zip(put, again):
+        if not line.startswith("sum"):
+            at += 1
+            continue
+        words = line[-1]
+        if left[words][at] and sums[words] not in (None, answer):
+            sys.exit(f"up to line {at + 1} a call changed words of {words} that it has to leave:\n" + "\n".join(lines[: at + 1]))
+        sums[words] = answer
+    for line, answer in zip(lines, told):
         if not line.startswith("poke"):
             counts[" ".join(answer.split()[:2]) if answer.startswith("refused") else answer.split()[0]] += 1
-        before = after
 
 
 def main():
@@ -167,12 +185,10 @@ def main():
     options.add_argument("--seed", type=int, default=0)
     given = options.parse_args()
     counts = collections.Counter()
-    for seed in range(given.seed, given.seed + given.rounds):
-        lines = round_of(random.Random(seed))
-        told = subprocess.run(given.port.split(), input="\n".join(spaced(lines)) + "\n", capture_output=True, text=True, check=False)
-        if told.returncode != 0:
-            sys.exit(f"round {seed}: it ended with {told.returncode}")
-        look(lines, told.stdout.splitlines(), counts)
+    last = given.seed + given.rounds
+    for seed in range(given.seed, last, TOGETHER):
+        rounds = [round_of(random.Random(each)) for each in range(seed, min(seed + TOGETHER, last))]
+        look(given.port, [line for lines in rounds for line in lines], counts)
     for answer, times in sorted(counts.items(), key=lambda pair: -pair[1]):
         print(f"{answer}: {times}")
     print(f"{sum(counts.values())} calls: every line was answered, and no refusal changed a word")

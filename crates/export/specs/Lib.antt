@@ -1,0 +1,5 @@
+pub mod Told
+pub mod Given
+pub mod Handed
+pub mod Lent
+pub mod Findings
