@@ -64,7 +64,7 @@ enum njn_refusal {
     NJN_BAD_STATE = 32, /* a table, run or state that is not well formed */
     /* 33 and 34 are kept for rules to come. */
     NJN_SHORT = 35, /* a lent result slice is shorter than stated: nothing at all is written */
-    NJN_MALFORMED = 36, /* an argument that is no value, kind, bound or capacity: nothing at all is written */
+    NJN_MALFORMED = 36, /* an argument that is no value, kind, bound or capacity, or bytes that are no block: nothing at all is written */
     NJN_BAD_BLOCK = 37, /* a block of a recording that is not well formed */
     NJN_DIFFERS = 38 /* a record of a recording whose call answers otherwise than it says */
 };
@@ -131,6 +131,8 @@ static inline const char *njn_refusal_name(uint32_t number)
 #define NJN_PLACES_WORDS 5      /* the places of a run's processes */
 #define NJN_CHANNEL_WORDS 7     /* a channel */
 #define NJN_REPLAY_WORDS 4      /* what a replay tells */
+#define NJN_BLOCK_BYTES 512     /* a block of a recording, in bytes */
+#define NJN_BLOCK_RECORDS 15    /* the most records that a block has */
 #define NJN_CAUSE_WORDS 6       /* the cause of an 8 */
 #define NJN_GUARDS_WORDS 65536  /* the guards of a system, as njn_state_why is lent them */
 #define NJN_LIMITS_WORDS 30720  /* the limits of a system */
@@ -148,6 +150,8 @@ size_t njn_queued_words(void);
 size_t njn_places_words(void);
 size_t njn_channel_words(void);
 size_t njn_replay_words(void);
+size_t njn_block_bytes(void);
+size_t njn_block_records(void);
 size_t njn_cause_words(void);
 size_t njn_guards_words(void);
 size_t njn_limits_words(void);
@@ -530,6 +534,20 @@ uint32_t njn_state_wait(const uint64_t *t, size_t t_len, uint64_t *s, size_t s_l
  * recorded number and the one given. Words that are not named are 0. */
 uint32_t njn_state_replay(const uint64_t *t, size_t t_len, uint64_t *s, size_t s_len, const uint8_t *bytes, size_t bytes_len, uint64_t *out,
                           size_t out_len);
+
+/* A recording is written block by block, each on NJN_BLOCK_BYTES lent bytes: its records, from 0 on, and then the rest. What is in the bytes before does not
+ * matter. Each is refused with 36 alone, and no byte is written then.
+ *
+ * Record i of the block is a step of this graph by its action to its posts, at most 4, with the word that was handed and what was answered, 0 for ok. */
+uint32_t njn_block_put_step(uint8_t *block, size_t block_len, size_t i, uint8_t pg, uint32_t action, const uint16_t *posts, size_t posts_len,
+                            uint64_t word, uint8_t answer);
+
+/* Record i of the block is a wait. */
+uint32_t njn_block_put_wait(uint8_t *block, size_t block_len, size_t i, uint32_t delta, uint8_t answer);
+
+/* The block is number `place` of its recording, from 0 on, and has so many records: all other bytes are written. Only the last block of a recording has
+ * fewer than NJN_BLOCK_RECORDS. */
+uint32_t njn_block_seal(uint8_t *block, size_t block_len, uint32_t place, size_t count);
 
 /* Whether such a wait would be accepted. out[0]: 1 or 0. */
 uint32_t njn_state_can_wait(const uint64_t *t, size_t t_len, const uint64_t *s, size_t s_len, uint32_t delta, uint64_t *out,

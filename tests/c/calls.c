@@ -72,6 +72,8 @@ static void sizes(void)
     SAME("places", njn_places_words(), NJN_PLACES_WORDS);
     SAME("channel", njn_channel_words(), NJN_CHANNEL_WORDS);
     SAME("replay", njn_replay_words(), NJN_REPLAY_WORDS);
+    SAME("block", njn_block_bytes(), NJN_BLOCK_BYTES);
+    SAME("records", njn_block_records(), NJN_BLOCK_RECORDS);
     SAME("cause", njn_cause_words(), NJN_CAUSE_WORDS);
     SAME("guards", njn_guards_words(), NJN_GUARDS_WORDS);
     SAME("limits", njn_limits_words(), NJN_LIMITS_WORDS);
@@ -524,6 +526,49 @@ static void replays(void)
     NO(NJN_SHORT, njn_state_replay(NONE, NONE, NONE, out, NJN_REPLAY_WORDS - 1));
 }
 
+/* A block written by the calls is the one that is put together byte by byte above, whatever was in its bytes before; refused, no byte is written. */
+static void blocks(void)
+{
+    uint8_t block[NJN_BLOCK_BYTES + 1], was[NJN_BLOCK_BYTES + 1], wanted[NJN_BLOCK_BYTES];
+    const uint16_t posts[5] = {1, 65535, 3, 4, 5};
+    size_t i;
+#define B block, NJN_BLOCK_BYTES
+#define REFUSED(call) do { memcpy(was, block, sizeof block); NO(NJN_MALFORMED, (call)); SAME("bytes", memcmp(was, block, sizeof block), 0); } while (0)
+    memset(wanted, 0, sizeof wanted);
+    record(wanted, 0, 2, 6, 0);
+    record(wanted, 1, 1, 2, 8);
+    memset(block, 0xff, sizeof block);
+    OK(0, njn_block_put_wait(B, 0, 6, 0));
+    OK(0, njn_block_put_step(B, 1, 1, 2, posts, 1, 0, 8));
+    OK(0, njn_block_seal(B, 0, 2));
+    SAME("block", memcmp(block, wanted, sizeof wanted), 0);
+    SAME("past the block", block[NJN_BLOCK_BYTES], 0xff);
+    three_ways();
+    OK(NJN_REPLAY_WORDS, njn_state_replay(Y, S, B, O));
+    IS(0, 2);
+    for (i = 0; i < NJN_BLOCK_RECORDS; i++) OK(0, njn_block_put_wait(B, i, 0, 0));
+    OK(0, njn_block_seal(B, 0, NJN_BLOCK_RECORDS));
+    OK(NJN_REPLAY_WORDS, njn_state_replay(Y, S, B, O));
+    IS(0, NJN_BLOCK_RECORDS);
+    OK(0, njn_block_seal(B, UINT32_MAX, 0)); /* no record is left, and it is no first block */
+    FOUND(NJN_BAD_BLOCK, NJN_REPLAY_WORDS, njn_state_replay(Y, S, B, O));
+    OK(0, njn_block_put_step(B, 14, UINT8_MAX, NJN_EPSILON, posts, 4, UINT64_MAX, UINT8_MAX));
+    SAME("post", block[28 + 32 * 14 + 10], 255);
+    SAME("word", block[28 + 32 * 14 + 23], 255);
+    SAME("answer", block[28 + 32 * 14 + 24], 255);
+    SAME("zero", block[28 + 32 * 14 + 25], 0);
+    REFUSED(njn_block_put_step(B, 0, 1, 2, posts, 5, 0, 8));
+    REFUSED(njn_block_put_step(B, NJN_BLOCK_RECORDS, 1, 2, posts, 1, 0, 8));
+    REFUSED(njn_block_put_step(block, NJN_BLOCK_BYTES - 1, 0, 1, 2, posts, 1, 0, 8));
+    REFUSED(njn_block_put_step(block, NJN_BLOCK_BYTES + 1, 0, 1, 2, posts, 1, 0, 8));
+    REFUSED(njn_block_put_wait(B, SIZE_MAX, 6, 0));
+    REFUSED(njn_block_put_wait(NONE, 0, 6, 0));
+    REFUSED(njn_block_seal(B, 0, NJN_BLOCK_RECORDS + 1));
+    REFUSED(njn_block_seal(block, NJN_BLOCK_BYTES - 1, 0, 1));
+#undef B
+#undef REFUSED
+}
+
 int main(void)
 {
     sizes();
@@ -531,6 +576,7 @@ int main(void)
     systems();
     reasons();
     replays();
+    blocks();
     printf("%d calls, %d failures\n", calls, failures);
     return failures == 0 ? EXIT_SUCCESS : EXIT_FAILURE;
 }

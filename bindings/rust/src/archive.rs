@@ -244,6 +244,19 @@ unsafe extern "C" {
         out: Lent,
         out_len: usize,
     ) -> u32;
+    fn njn_block_put_step(
+        block: *mut u8,
+        block_len: usize,
+        i: usize,
+        pg: u8,
+        action: u32,
+        posts: *const u16,
+        posts_len: usize,
+        word: u64,
+        answer: u8,
+    ) -> u32;
+    fn njn_block_put_wait(block: *mut u8, block_len: usize, i: usize, delta: u32, answer: u8) -> u32;
+    fn njn_block_seal(block: *mut u8, block_len: usize, place: u32, count: usize) -> u32;
     fn njn_state_why(
         t: Slice,
         t_len: usize,
@@ -852,6 +865,27 @@ pub(crate) fn replay(table: &SystemTable, state: &mut StateWords, bytes: &[u8]) 
     let number =
         unsafe { njn_state_replay(t.as_ptr(), t.len(), s.as_mut_ptr(), s.len(), bytes.as_ptr(), bytes.len(), out.as_mut_ptr(), out.len()) };
     answered(number, out[0]).map_err(|number| (number, out))
+}
+
+/// Record i of a block of a recording is this step. Refused, if there is no record i or the posts are too many.
+pub(crate) fn put_step(block: &mut [u8; 512], i: usize, pg: u8, action: u32, posts: &[u16], word: u64, answer: u8) -> Answer<()> {
+    // SAFETY: the posts are live and read; the block is live, and lent alone.
+    let number = unsafe { njn_block_put_step(block.as_mut_ptr(), block.len(), i, pg, action, posts.as_ptr(), posts.len(), word, answer) };
+    answered(number, ())
+}
+
+/// Record i of a block of a recording is this wait. Refused, if there is no record i.
+pub(crate) fn put_wait(block: &mut [u8; 512], i: usize, delta: u32, answer: u8) -> Answer<()> {
+    // SAFETY: the block is live, and lent alone.
+    let number = unsafe { njn_block_put_wait(block.as_mut_ptr(), block.len(), i, delta, answer) };
+    answered(number, ())
+}
+
+/// A block of a recording is number `place`, and has so many records: all its other bytes are written. Refused, if it has no room for so many.
+pub(crate) fn seal(block: &mut [u8; 512], place: u32, count: usize) -> Answer<()> {
+    // SAFETY: the block is live, and lent alone.
+    let number = unsafe { njn_block_seal(block.as_mut_ptr(), block.len(), place, count) };
+    answered(number, ())
 }
 
 /// The cause of an 8: the process, the first candidate, which sort of part fails (1 the guard, 2 a limit, 3 an invariant; another number says that

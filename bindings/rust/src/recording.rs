@@ -85,29 +85,20 @@ pub struct Record {
 }
 
 impl Record {
-    /// The bytes of the record. None, if a record has no room for the call: a part of another graph, more than 4 posts, a graph past 255 or a
-    /// location past 65535. Such a call is refused by every system.
-    fn bytes(&self) -> Option<[u8; RECORD]> {
-        let mut bytes = [0; RECORD];
+    /// Writes this record into a block, as its record i, and says whether a record has room for the call: it has none for a part of another graph,
+    /// more than 4 posts, a graph past 255 or a location past 65535. Such a call is refused by every system.
+    fn put(&self, block: &mut [u8; BLOCK], i: usize) -> bool {
         match &self.call {
             Call::Step { pg_id, action, post, word } => {
-                if action.0 != *pg_id || post.len() > POSTS || post.iter().any(|post| post.0 != *pg_id) {
-                    return None;
+                if action.0 != *pg_id || post.iter().any(|post| post.0 != *pg_id) {
+                    return false;
                 }
-                bytes[..4].copy_from_slice(&[1, pg_id.0.try_into().ok()?, post.len() as u8, 0]);
-                bytes[4..8].copy_from_slice(&action.1.0.to_le_bytes());
-                for (place, post) in bytes[8..16].chunks_exact_mut(2).zip(post) {
-                    place.copy_from_slice(&u16::try_from(post.1.0).ok()?.to_le_bytes());
-                }
-                bytes[16..24].copy_from_slice(&word.to_le_bytes());
+                let posts: Result<Vec<u16>, _> = post.iter().map(|post| post.1.0.try_into()).collect();
+                let (Ok(pg_id), Ok(posts)) = (pg_id.0.try_into(), posts) else { return false };
+                archive::put_step(block, i, pg_id, action.1.0, &posts, *word, self.answer).is_ok()
             }
-            Call::Wait { delta } => {
-                bytes[0] = 2;
-                bytes[4..8].copy_from_slice(&delta.to_le_bytes());
-            }
+            Call::Wait { delta } => archive::put_wait(block, i, *delta, self.answer).is_ok(),
         }
-        bytes[24] = self.answer;
-        Some(bytes)
     }
 
     /// The record of these bytes, if they are one.
@@ -124,7 +115,8 @@ impl Record {
         };
         let record = Record { call, answer: bytes[24] };
         // What was not read has to be as it is written.
-        (record.bytes().as_ref() == Some(bytes)).then_some(record)
+        let mut block = [0; BLOCK];
+        (record.put(&mut block, 0) && &block[HEAD..HEAD + RECORD] == bytes).then_some(record)
     }
 }
 
@@ -133,7 +125,7 @@ fn sum(block: &[u8]) -> u32 {
     block[..SUMMED].iter().zip(1..).map(|(byte, place)| u32::from(*byte) * place).sum()
 }
 
-/// Writes a recording, a block whenever it is full.
+/// Writes a recording, a block whenever it is full. The archive writes the blocks: that each reads back as its records, and as no others, is proved.
 ///
 /// What the writer answers does not disturb the run that is recorded: its first error is kept, nothing more is written, and
 /// [`finish`](Recorder::finish) answers it. A recorder that is dropped before has not written its last block.
@@ -141,40 +133,36 @@ fn sum(block: &[u8]) -> u32 {
 pub struct Recorder<W> {
     to: W,
     number: u32,
-    records: Vec<[u8; RECORD]>,
+    block: [u8; BLOCK],
+    count: usize,
     failed: Option<io::Error>,
 }
 
 impl<W: Write> Recorder<W> {
     /// A recorder that writes here.
     pub fn new(to: W) -> Self {
-        Recorder { to, number: 0, records: vec![], failed: None }
+        Recorder { to, number: 0, block: [0; BLOCK], count: 0, failed: None }
     }
 
     /// Adds a record, and says whether there is room in one for its call. Where there is none the call was refused and moved nothing, so
     /// the recording holds without it.
     pub fn add(&mut self, record: &Record) -> bool {
-        let Some(bytes) = record.bytes() else { return false };
-        if self.records.len() == RECORDS {
+        if self.count == RECORDS {
             self.put();
         }
-        self.records.push(bytes);
-        true
+        let has_room = record.put(&mut self.block, self.count);
+        self.count += usize::from(has_room);
+        has_room
     }
 
     /// Writes the block.
     fn put(&mut self) {
-        let mut block = [0; BLOCK];
-        block[..COUNT].copy_from_slice(&self.number.to_le_bytes());
-        block[COUNT] = self.records.len() as u8;
-        for (place, record) in block[HEAD..SUMMED].chunks_exact_mut(RECORD).zip(self.records.drain(..)) {
-            place.copy_from_slice(&record);
-        }
-        let summed = sum(&block);
-        block[SUMMED..].copy_from_slice(&summed.to_le_bytes());
+        let sealed = archive::seal(&mut self.block, self.number, self.count);
+        debug_assert!(sealed.is_ok(), "a block has no more records than there is room for");
+        self.count = 0;
         if self.failed.is_none() {
             let numbered = self.number.checked_add(1).ok_or_else(|| io::Error::other("a recording has no more blocks than 2^32"));
-            match self.to.write_all(&block).and(numbered) {
+            match self.to.write_all(&self.block).and(numbered) {
                 Ok(next) => self.number = next,
                 Err(error) => self.failed = Some(error),
             }
@@ -183,7 +171,7 @@ impl<W: Write> Recorder<W> {
 
     /// Writes what is left, and gives the writer back.
     pub fn finish(mut self) -> io::Result<W> {
-        if !self.records.is_empty() {
+        if self.count > 0 {
             self.put();
         }
         self.failed.map_or(Ok(()), Err)?;

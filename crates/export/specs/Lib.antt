@@ -1,5 +1,1 @@
-pub mod Told
-pub mod Given
-pub mod Handed
-pub mod Lent
 pub mod Findings

@@ -1,6 +1,6 @@
 // Building one graph of a system, and its communications.
-use crate::inner::given;
-use crate::inner::handed;
+use c_words::inner::given;
+use c_words::inner::handed;
 use grammar::inner::slots;
 use graph_tables::ids::Action;
 use graph_tables::ids::Clock;
@@ -19,9 +19,9 @@ ghost use Rattle.system_tables.specs.declared.ids.Message.the-variants.{ProbeEm
 ghost use Rattle.system_builder.specs.Graphs.{newVarOn, newClockOn, newProcessOn, addResetOn, addEffectOn, newTimedLocationOn};
 ghost use Rattle.system_builder.specs.Graphs.{newInitialOn, addTransitionOn, varTypeIn, newActionOn};
 ghost use Rattle.system_builder.specs.Messages.{newSendOn, newReceiveOn, newProbeOn};
-ghost use Rattle.export.specs.Told.{numberWords, varTypeTold};
-ghost use Rattle.export.specs.Given.{placing, doing, reading, Gives, Does, Tells};
-ghost use Rattle.export.specs.Handed.{varsFrom, limitsKnown, limitsFrom};
+ghost use Rattle.c_words.specs.Told.{numberWords, varTypeTold};
+ghost use Rattle.c_words.specs.Given.{placing, doing, reading, Gives, Does, Tells};
+ghost use Rattle.c_words.specs.Handed.{varsFrom, limitsKnown, limitsFrom};
 
 #[no_mangle]
 pub extern "C" fn njn_system_new_var(

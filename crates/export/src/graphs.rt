@@ -1,6 +1,6 @@
 // Building a graph.
-use crate::inner::given;
-use crate::inner::handed;
+use c_words::inner::given;
+use c_words::inner::handed;
 use grammar::inner::slots;
 use graph_tables::ids::Action;
 use graph_tables::ids::Clock;
@@ -12,9 +12,9 @@ ghost use Rattle.grammar.specs.Slots.{valOf, isValue};
 ghost use Rattle.graph_edits.specs.Edits.{chosen};
 ghost use Rattle.graph_builder.specs.Building.{emptyOf, newVarOf, varTypeOf, newClockOf, newActionOf, newProcessOf, buildOf, addResetOf};
 ghost use Rattle.graph_builder.specs.Building.{addEffectOf, newSendOf, newReceiveOf, newTimedLocationOf, newInitialOf, addTransitionOf};
-ghost use Rattle.export.specs.Told.{numberWords, doneTold, varTypeTold};
-ghost use Rattle.export.specs.Given.{placing, doing, reading, Gives, Does, Tells};
-ghost use Rattle.export.specs.Handed.{varsFrom, limitsKnown, limitsFrom};
+ghost use Rattle.c_words.specs.Told.{numberWords, doneTold, varTypeTold};
+ghost use Rattle.c_words.specs.Given.{placing, doing, reading, Gives, Does, Tells};
+ghost use Rattle.c_words.specs.Handed.{varsFrom, limitsKnown, limitsFrom};
 
 #[no_mangle]
 pub extern "C" fn njn_graph_new(t: &mut [u64]) -> u32

@@ -1,6 +1,6 @@
 // Why a plain step answered 8.
-use crate::inner::given;
-use crate::inner::values;
+use c_words::inner::given;
+use c_words::inner::values;
 use explainer::causes::Found;
 use explainer::layout;
 use explainer::why;
@@ -10,8 +10,8 @@ use system_tables::ids::PgId;
 ghost use mathlib.Core.Path.{_≡_};
 ghost use Rattle.explainer.specs.Layout.{allGuards, allLimits};
 ghost use Rattle.explainer.specs.Why.{foundOf};
-ghost use Rattle.export.specs.Told.{Says};
-ghost use Rattle.export.specs.Given.{reading, Tells};
+ghost use Rattle.c_words.specs.Told.{Says};
+ghost use Rattle.c_words.specs.Given.{reading, Tells};
 ghost use Rattle.export.specs.Findings.{causeWords, causeTold};
 
 // How many words a cause has.

@@ -1,13 +1,13 @@
 // A recording stepped again.
-use crate::inner::given;
-use crate::inner::values;
+use c_words::inner::given;
+use c_words::inner::values;
 use replays::answers::Replayed;
 use replays::run;
 ghost use mathlib.Core.Path.{_≡_};
 ghost use mathlib.Core.Bool.{true};
 ghost use Rattle.replays.specs.Replay.{replayOf};
-ghost use Rattle.export.specs.Told.{Says};
-ghost use Rattle.export.specs.Given.{answering, Gives};
+ghost use Rattle.c_words.specs.Told.{Says};
+ghost use Rattle.c_words.specs.Given.{answering, Gives};
 ghost use Rattle.export.specs.Findings.{replayWords, replayTold};
 
 // Numbers behind those of the calls: a block is bad, a record answers otherwise than it says.

@@ -1,5 +1,5 @@
 // Running a system.
-use crate::inner::given;
+use c_words::inner::given;
 use channel_system::readers;
 use channel_system::run;
 use channel_system::transitions;
@@ -14,9 +14,9 @@ ghost use Rattle.channel_system.specs.Steps.{transitionOf};
 ghost use Rattle.channel_system.specs.Waits.{waitOf, canWaitOf, isWaitingOf};
 ghost use Rattle.channel_system.specs.Listing.{possibleOf, possibleOn, nosyncOn};
 ghost use Rattle.channel_system.specs.Readers.{nowOf, lengthOf, queuedOf};
-ghost use Rattle.export.specs.Told.{numberWords, queuedWords, entryWords, graphEntryWords, eventWords, doneTold, heldTold};
-ghost use Rattle.export.specs.Told.{steppedTold, waitedTold, entryTold, graphEntryTold, nowTold, lengthTold, queuedTold};
-ghost use Rattle.export.specs.Given.{answering, reading, Gives, Does, Tells};
+ghost use Rattle.c_words.specs.Told.{numberWords, queuedWords, entryWords, graphEntryWords, eventWords, doneTold, heldTold};
+ghost use Rattle.c_words.specs.Told.{steppedTold, waitedTold, entryTold, graphEntryTold, nowTold, lengthTold, queuedTold};
+ghost use Rattle.c_words.specs.Given.{answering, reading, Gives, Does, Tells};
 
 #[no_mangle]
 pub extern "C" fn njn_state_new(t: &[u64], s: &mut [u64]) -> u32

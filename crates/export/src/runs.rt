@@ -1,15 +1,15 @@
 // Running a graph: a run is lent as words, and worked on in place.
-use crate::inner::given;
-use crate::inner::handed;
-use crate::inner::lent;
+use c_words::inner::given;
+use c_words::inner::handed;
+use c_words::inner::lent;
 ghost use mathlib.Core.Path.{_≡_};
 ghost use mathlib.Core.Bool.{true};
 ghost use mathlib.Core.List.{[]};
-ghost use Rattle.export.specs.Told.{numberWords, valueWords, entryWords, placesWords, messageWords, doneTold, doneSaying, messageSaid, valueTold, heldTold, entryTold};
-ghost use Rattle.export.specs.Given.{answering, reading, Gives, Does, Tells};
-ghost use Rattle.export.specs.Handed.{valuesKnown, messageFrom};
-ghost use Rattle.export.specs.Lent.{newRunAt, transitionAt, waitAt, receiveAt, canWaitAt, isWaitingAt};
-ghost use Rattle.export.specs.Lent.{possibleAt, nosyncAt, valueAt, timeAt, timeTold, statesAt, sendAt, saidAt};
+ghost use Rattle.c_words.specs.Told.{numberWords, valueWords, entryWords, placesWords, messageWords, doneTold, doneSaying, messageSaid, valueTold, heldTold, entryTold};
+ghost use Rattle.c_words.specs.Given.{answering, reading, Gives, Does, Tells};
+ghost use Rattle.c_words.specs.Handed.{valuesKnown, messageFrom};
+ghost use Rattle.c_words.specs.Lent.{newRunAt, transitionAt, waitAt, receiveAt, canWaitAt, isWaitingAt};
+ghost use Rattle.c_words.specs.Lent.{possibleAt, nosyncAt, valueAt, timeAt, timeTold, statesAt, sendAt, saidAt};
 
 #[no_mangle]
 pub extern "C" fn njn_run_new(t: &[u64], r: &mut [u64]) -> u32

@@ -1,12 +1,12 @@
 // How many words to lend.
-use crate::inner::given;
+use c_words::inner::given;
 use graph_tables::runs;
 ghost use mathlib.Core.Path.{_≡_};
 ghost use Rattle.graph_tables.specs.Layout.{tableWords};
 ghost use Rattle.graph_tables.specs.RunWords.{runWords};
 ghost use Rattle.system_tables.specs.Layout.{systemWords};
 ghost use Rattle.system_state.specs.Layout.{stateWords};
-ghost use Rattle.export.specs.Told.{valueWords, queuedWords, entryWords, graphEntryWords, placesWords, channelWords, messageWords, eventWords};
+ghost use Rattle.c_words.specs.Told.{valueWords, queuedWords, entryWords, graphEntryWords, placesWords, channelWords, messageWords, eventWords};
 
 #[no_mangle]
 pub extern "C" fn njn_graph_words() -> usize

@@ -1,14 +1,14 @@
 // Building a system: its graphs and its channels.
-use crate::inner::given;
-use crate::inner::handed;
+use c_words::inner::given;
+use c_words::inner::handed;
 use system_tables::ids::Channel;
 ghost use mathlib.Core.Path.{_≡_};
 ghost use mathlib.Core.Bool.{true};
 ghost use Rattle.system_tables.specs.Words.{capacityAs};
 ghost use Rattle.system_builder.specs.Systems.{emptySystemOf, newGraphOf, newChannelOf, buildSystemOf, channelIn};
-ghost use Rattle.export.specs.Told.{channelWords, doneTold, channelTold};
-ghost use Rattle.export.specs.Given.{placing, doing, reading, Gives, Does, Tells};
-ghost use Rattle.export.specs.Handed.{channelKnown, kindsFrom};
+ghost use Rattle.c_words.specs.Told.{channelWords, doneTold, channelTold};
+ghost use Rattle.c_words.specs.Given.{placing, doing, reading, Gives, Does, Tells};
+ghost use Rattle.c_words.specs.Handed.{channelKnown, kindsFrom};
 
 #[no_mangle]
 pub extern "C" fn njn_system_new(t: &mut [u64]) -> u32

@@ -2,7 +2,7 @@ use mathlib.Core.Path.{refl}
 use lib.ListN.{length}
 use borrow.Author.Tests.{le-leb, lt-leb}
 use Rattle.laws.specs.Ladder.{unless}
-use Rattle.export.specs.Given.{answering}
+use Rattle.c_words.specs.Given.{answering}
 use Rattle.export.specs.Findings.{replayWords}
 use borrow.Author.Needs.{needs}
 use Rattle.export.proofs.replaying.njn_state_replay.Statement.{statement}

@@ -3,7 +3,7 @@ use lib.ListN.{length}
 use borrow.Author.Tests.{le-leb, lt-leb}
 use Rattle.laws.specs.Ladder.{unless}
 use Rattle.laws.proofs.Tests.{held}
-use Rattle.export.specs.Given.{answering}
+use Rattle.c_words.specs.Given.{answering}
 use borrow.Author.Needs.{needs}
 use Rattle.export.proofs.running.njn_state_can_wait.Statement.{statement}
 use Rattle.export.proofs.running.njn_state_can_wait.Tie as tie

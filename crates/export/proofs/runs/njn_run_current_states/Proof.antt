@@ -3,7 +3,7 @@ use lib.ListN.{length}
 use borrow.Author.Tests.{le-leb, lt-leb}
 use borrow.Author.Needs.{needs}
 use Rattle.laws.specs.Ladder.{unless}
-use Rattle.export.specs.Given.{answering}
+use Rattle.c_words.specs.Given.{answering}
 use Rattle.export.proofs.runs.njn_run_current_states.Statement.{statement}
 use Rattle.export.proofs.runs.njn_run_current_states.Tie as tie
 

@@ -1,7 +1,7 @@
 use mathlib.Core.Path.{refl}
 use borrow.Author.Needs.{needs}
 use Rattle.laws.specs.Ladder.{unless}
-use Rattle.export.specs.Given.{answering}
+use Rattle.c_words.specs.Given.{answering}
 use Rattle.export.proofs.runs.njn_run_transition.Statement.{statement}
 use Rattle.export.proofs.runs.njn_run_transition.Tie as tie
 

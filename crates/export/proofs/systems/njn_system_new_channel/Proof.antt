@@ -4,7 +4,7 @@ use borrow.Author.Tests.{le-leb, lt-leb}
 use borrow.Author.Needs.{needs}
 use Rattle.laws.specs.Ladder.{unless}
 use Rattle.laws.proofs.Tests.{held, failed}
-use Rattle.export.specs.Given.{answering}
+use Rattle.c_words.specs.Given.{answering}
 use Rattle.export.proofs.systems.njn_system_new_channel.Statement.{statement}
 use Rattle.export.proofs.systems.njn_system_new_channel.Tie as tie
 

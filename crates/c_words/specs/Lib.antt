@@ -1,0 +1,4 @@
+pub mod Told
+pub mod Given
+pub mod Handed
+pub mod Lent
