@@ -2,4 +2,5 @@
 pub mod answers;
 pub mod lists;
 pub mod messages;
+pub mod pairs;
 pub mod writing;

@@ -1,7 +1,7 @@
 // A line that steps a graph of the system.
 use crate::answers;
-use crate::pairs;
-use crate::pairs::Pair;
+use graph_text::pairs;
+use graph_text::pairs::Pair;
 use channel_system::run;
 use graph_tables::ids;
 use graph_text::lists;

@@ -4,8 +4,8 @@ use lib.ListN.{length-set}
 use mathlib.Core.Path.{_≡_}
 use lib.ListN.{length}
 use borrow.Author.Needs.{needs}
-use Rattle.system_lines.proofs.pairs.read_posts.Statement.{statement}
-use Rattle.system_lines.proofs.pairs.read_posts.Tie as tie
+use Rattle.graph_text.proofs.pairs.read_posts.Statement.{statement}
+use Rattle.graph_text.proofs.pairs.read_posts.Tie as tie
 
 abbrev Inv-loop : tie.InvT-loop
 Inv-loop line at words₀ here₀ count₀ words here count = (length words ≡ 8) × (count ≤ 8)

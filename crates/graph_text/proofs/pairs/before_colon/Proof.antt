@@ -2,8 +2,8 @@ use Prim.Native.Nat.{_-_, _≤_}
 use mathlib.Core.Path.{_≡_}
 use lib.ListN.{length}
 use borrow.Author.Needs.{needs}
-use Rattle.system_lines.proofs.pairs.before_colon.Statement.{statement}
-use Rattle.system_lines.proofs.pairs.before_colon.Tie as tie
+use Rattle.graph_text.proofs.pairs.before_colon.Statement.{statement}
+use Rattle.graph_text.proofs.pairs.before_colon.Tie as tie
 
 abbrev Inv-loop : tie.InvT-loop
 Inv-loop token at₀ at = at ≤ length token

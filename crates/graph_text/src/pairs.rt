@@ -1,6 +1,6 @@
 // A number of a graph with a number of that graph's own, `G:N`.
 use graph_tables::layout::WORD32;
-use graph_text::lists;
+use crate::lists;
 use text::numbers;
 use text::numbers::Small;
 use text::tokens;
