@@ -6,7 +6,7 @@ use crate::numbers::Small;
 use crate::{numbers, tokens};
 use time::Bound;
 
-#[derive(Drop)]
+#[derive(Clone, Copy)]
 pub enum Limit {
     Is(Bound),
     Bad,

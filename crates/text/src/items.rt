@@ -9,7 +9,7 @@ use grammar::items::{Binary, Item, Unary};
 use grammar::values::Val;
 
 // What a token stands for: an item, or `x`, an item that is none.
-#[derive(Drop)]
+#[derive(Clone, Copy)]
 pub enum Symbol {
     Item(Item),
     Nothing,
@@ -99,7 +99,7 @@ pub fn read_word(token: &[u8]) -> Number
 }
 
 // The words that were read, and where the token after them starts.
-#[derive(Drop)]
+#[derive(Clone, Copy)]
 pub enum Expression {
     Is { count: usize, next: usize },
     Bad,

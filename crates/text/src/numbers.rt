@@ -4,19 +4,19 @@ ghost use Rattle.text.specs.Numbers.{with_digit, up_to, number_of, small_of, pos
 
 use crate::tokens;
 
-#[derive(Drop)]
+#[derive(Clone, Copy)]
 pub enum Number {
     Is(u64),
     Bad,
 }
 
-#[derive(Drop)]
+#[derive(Clone, Copy)]
 pub enum Small {
     Is(u32),
     Bad,
 }
 
-#[derive(Drop)]
+#[derive(Clone, Copy)]
 pub enum Integer {
     Is(i32),
     Bad,

@@ -7,7 +7,7 @@ use crate::{numbers, tokens};
 use grammar::values;
 use grammar::values::Val;
 
-#[derive(Drop)]
+#[derive(Clone, Copy)]
 pub enum Value {
     Is(Val),
     Bad,
