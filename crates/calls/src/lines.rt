@@ -199,17 +199,7 @@ pub fn answer_all(
         if !reader.whole {
             return Ok(());
         }
-        run = tell(
-            rt,
-            line,
-            reader.length,
-            t,
-            s,
-            state,
-            guards,
-            limits,
-            run,
-        )?;
+        run = tell(rt, line, reader.length, t, s, state, guards, limits, run)?;
     }
     Ok(())
 }

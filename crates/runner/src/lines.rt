@@ -64,13 +64,7 @@ fn answer(line: &[u8], t: &[u64], s: &mut [u64], out: &mut [u8]) -> usize {
 }
 
 // Writes the answer to a line.
-fn tell(
-    rt: &impl Print,
-    line: &[u8],
-    length: usize,
-    t: &[u64],
-    s: &mut [u64],
-) -> io::Result<()> {
+fn tell(rt: &impl Print, line: &[u8], length: usize, t: &[u64], s: &mut [u64]) -> io::Result<()> {
     let mut out = [0u8; ANSWER];
     if LONGEST < length {
         let count = text::answers::bad(&mut out);

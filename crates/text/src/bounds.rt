@@ -30,6 +30,7 @@ fn excluded(n: Small) -> Limit
     }
 }
 
+#[tactic(auto, unfolding(crate::specs::Bounds::limit_of))]
 pub fn read_limit(token: &[u8]) -> Limit
     ensures { result ≡ limit_of token.now }
 {

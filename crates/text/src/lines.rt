@@ -84,12 +84,7 @@ fn go_on(
             count: 0,
         });
     }
-    Ok(take(
-        line,
-        now.length,
-        tokens::part(bytes, count),
-        now.at,
-    ))
+    Ok(take(line, now.length, tokens::part(bytes, count), now.at))
 }
 
 // Reads the next line; where there is none it is not whole. Nothing says that the input ends, so the turns are counted, up to

@@ -64,6 +64,7 @@ fn magnitude(n: i32) -> u64
 }
 
 // An integer in decimal.
+#[tactic(auto, using(crate::proofs::Places::both))]
 pub fn put_integer(out: &mut [u8], at: usize, n: i32) -> usize
     ensures { Put out.old at (integer_text n) out.new result }
 {
@@ -75,6 +76,7 @@ pub fn put_integer(out: &mut [u8], at: usize, n: i32) -> usize
 }
 
 // A value as its token.
+#[tactic(auto, using(crate::proofs::Places::both))]
 pub fn put_value(out: &mut [u8], at: usize, value: Val) -> usize
     ensures { Put out.old at (value_text value) out.new result }
 {
@@ -94,6 +96,7 @@ pub fn put_value(out: &mut [u8], at: usize, value: Val) -> usize
 }
 
 // An end of a range as its token.
+#[tactic(auto, using(crate::proofs::Places::both))]
 pub fn put_bound(out: &mut [u8], at: usize, bound: Bound) -> usize
     ensures { Put out.old at (bound_text bound) out.new result }
 {

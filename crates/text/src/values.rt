@@ -22,6 +22,7 @@ fn integer(n: Integer) -> Value
     }
 }
 
+#[tactic(auto, unfolding(crate::specs::Values::value_of))]
 pub fn read_value(token: &[u8]) -> Value
     ensures { result ≡ value_of token.now }
 {
