@@ -1,0 +1,28 @@
+use Prim.Native.Nat.{◌+◌, ◌-◌}
+use mathlib.Core.Path.{◌≡◌, refl, ◌∙◌}
+use native.Mathlib.Omega.{arith}
+use borrow.Author.Rules.{rules}
+use Rattle.graph_tables.specs.RunWords.{run_processes}
+use Rattle.program_graph.proofs.LeaveLaws.{few_places, lent_known, holds_lent}
+use Rattle.program_graph.proofs.inner.waits.places_hold.Goals as goal
+
+pub overflow_add-n : goal.overflow_add-n
+overflow_add-n c =
+    let s = c.before.before.before.before in
+    let few = few_places s.args.t.now s.args.r.now s.requires.0 s.requires.1 _ refl in
+    omega (arith, few)
+
+pub places_hold-requires : goal.places_hold-requires
+places_hold-requires c =
+    let s = c.before.before.before.before.before in
+    let n = run_processes s.args.r.now in
+    let e : 3 + n - 3 ≡ n = omega arith in
+    (s.requires.0, s.requires.2, rw e (lent_known s.args.t.now s.args.r.now s.requires.0 s.requires.1 n refl))
+
+pub returns : goal.returns
+returns c =
+    let s = c.before.before.before.before.before.before in
+    let n = run_processes s.args.r.now in
+    let e : 3 + n - 3 ≡ n = omega arith in
+    let given = rw e at c.places_hold.ensures in
+    given ∙ holds_lent s.args.t.now s.args.r.now s.requires.0 s.requires.1 n refl _

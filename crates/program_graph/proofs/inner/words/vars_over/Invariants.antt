@@ -1,0 +1,15 @@
+use Prim.Native.Nat.{◌-◌, ◌≤◌}
+use mathlib.Core.Path.{◌≡◌, refl, ap, ◌∙◌}
+use native.Mathlib.Omega.{arith}
+use Rattle.grammar.specs.Slots.{slots_of}
+use Rattle.program_graph.specs.Inner.{over_below}
+use native.Mathlib.Numerals.{add-one}
+use Rattle.grammar.proofs.SlotLaws.{slot_at}
+use borrow.Author.Rules.{rules}
+use Rattle.program_graph.proofs.inner.words.vars_over.Given as goal
+
+abbrev pub invariant-loop-v : goal.invariant-loop-v
+invariant-loop-v l = (l.v ≤ l.n) × (l.vars ≡ over_below l.initial.vars (slots_of l.ws) l.v)
+
+abbrev pub decreases-loop-v : goal.decreases-loop-v
+decreases-loop-v l = l.n - l.v

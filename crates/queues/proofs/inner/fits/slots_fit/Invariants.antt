@@ -1,0 +1,12 @@
+use Rattle.std.proofs.Common.{◌≡◌, ◌-◌, ◌≤◌, true, sym, arith, rules}
+use Rattle.laws.specs.Below.{all_below}
+use Rattle.laws.proofs.BelowLaws.{all_none, all_more, all_fails, all_done}
+use Rattle.laws.proofs.Tests.{held, failed}
+use Rattle.queues.specs.Fits.{slot_fits}
+use Rattle.queues.proofs.inner.fits.slots_fit.Given as goal
+
+abbrev pub invariant-loop-i : goal.invariant-loop-i
+invariant-loop-i l = (l.i ≤ l.n) × (all_below l.i (slot_fits l.q l.kinds) ≡ true)
+
+abbrev pub decreases-loop-i : goal.decreases-loop-i
+decreases-loop-i l = l.n - l.i

@@ -1,0 +1,41 @@
+use Rattle.std.proofs.Common.{◌≡◌, ◌-◌, ◌<◌, ◌≤◌, refl, add-one, arith, rules}
+use Rattle.laws.proofs.Copies.{one_more}
+use Rattle.graph_tables.specs.Sizes.{message_room}
+use Rattle.queues.specs.Queues.{Counted, slots_for, pushed_below, FitBelow}
+use Rattle.queues.proofs.QueueLaws.{push_counted}
+use Rattle.queues.proofs.MessageLaws.{slots_few}
+use Rattle.queues.proofs.inner.ring.push_all.Goals as goal
+use Rattle.queues.proofs.inner.ring.push_all.Goals.{In-loop-k}
+
+pub loop-k-init : goal.loop-k-init
+unfolding pushed_below
+loop-k-init c = (search rules, search rules, refl, λ k h. absurd (omega arith))
+
+-- the value at hand is one of the message's
+within : (c : In-loop-k) → c.loop-k.k < message_room
+within c =
+    let n = c.before.before in
+    let s = n.before.before.before in
+    omega (arith, n.slots_for-k-end.ensures, slots_few s.args.message.count s.requires.1)
+
+pub loop-k-preserved : goal.loop-k-preserved
+unfolding pushed_below
+loop-k-preserved c =
+    let p = c.push in
+    let l = c.loop-k in (
+      omega arith,
+      rw p.ensures.0 (push_counted l.q _ l.invariant.1),
+      rw add-one (cc p.ensures.0),
+      one_more _ l.k l.invariant.3 p.ensures.1,
+    )
+
+pub returns : goal.returns
+returns c =
+    let l = c.loop-k in
+    let n = c.before.before in
+    let e : l.k ≡ slots_for n.args.message.count = omega (arith, n.slots_for-k-end.ensures) in
+    (rw e at l.invariant.2, rw e at l.invariant.3)
+
+pub offset_bounds-values-k : goal.offset_bounds-values-k
+offset_bounds-values-k c =
+    omega (arith, within (goal.at.offset_bounds-values-k c).In-loop-k)

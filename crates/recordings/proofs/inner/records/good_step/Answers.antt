@@ -1,0 +1,17 @@
+use Prim.Native.Nat.{ℕ, zero, suc, ◌+◌, ◌-◌, ◌*◌, ◌/◌, ◌%◌, ◌≤◌, ◌<◌}
+use mathlib.Core.Path.{◌≡◌, refl, sym, ap, ◌∙◌}
+use native.Mathlib.Omega.{arith}
+use lib.ListN.{length, get_or, set, length-set}
+use borrow.Author.Rules.{rules}
+use borrow.Author.Tests.{le-leb, lt-leb}
+use Rattle.laws.proofs.BelowLaws.{and_yes, and_no}
+use Rattle.recordings.specs.Records.{good_step}
+use Rattle.recordings.proofs.inner.records.good_step.Goals as goal
+
+pub returns-then-n-gt-POSTS : goal.returns-then-n-gt-POSTS
+unfolding good_step
+returns-then-n-gt-POSTS c = and_no _ (lt-leb _ _ c.if-n-gt-POSTS.true)
+
+pub returns : goal.returns
+unfolding good_step
+returns c = and_yes (le-leb _ _ c.if-n-gt-POSTS.false) c.zeros.ensures

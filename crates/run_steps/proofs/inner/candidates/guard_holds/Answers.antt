@@ -1,0 +1,21 @@
+use borrow.Author.Tests.{eq-eqb, ne_eqb}
+use mathlib.Core.Path.{sym, ◌∙◌}
+use native.Mathlib.Omega.{arith}
+use Rattle.run_steps.specs.Steps.{guard_holds}
+use borrow.Author.Rules.{rules}
+use Rattle.run_steps.proofs.inner.candidates.guard_holds.Goals as goal
+
+pub returns-then-guard_length-eq0 : goal.returns-then-guard_length-eq0
+unfolding guard_holds
+returns-then-guard_length-eq0 c = rw (eq-eqb _ _ (sym c.guard_length.ensures ∙ c.if-guard_length-eq0.true))
+
+pub guard_items-requires : goal.guard_items-requires
+guard_items-requires c =
+    let s = c.before.before.before.before in
+    (s.requires.0.words, omega (arith, s.requires.0.counts.transitions), (s.requires.0.transition _ s.requires.1).guard.short)
+
+pub returns : goal.returns
+unfolding guard_holds
+returns c =
+    let e = c.before.before in
+    c.is_satisfied.ensures ∙ rw (c.guard_items.ensures, ne_eqb _ _ (λ z. e.if-guard_length-eq0.false (e.guard_length.ensures ∙ z)))

@@ -1,0 +1,13 @@
+use borrow.Author.Rules.{rules}
+use borrow.Author.Tests.{lt-ltb, le-ltb, eq-eqb, ne_eqb}
+use Rattle.laws.proofs.BelowLaws.{and_yes, and_no}
+use Rattle.run_steps.proofs.inner.effects.is_kind.Goals as goal
+
+pub returns-then-action_count-a : goal.returns-then-action_count-a
+returns-then-action_count-a c = and_no _ (le-ltb _ _ (rw c.action_count.ensures at c.if-action_count-a.true))
+
+pub returns : goal.returns
+returns c =
+    let e = c.before in
+    let n = e.before in
+    and_yes (lt-ltb _ _ (rw n.action_count.ensures at e.if-action_count-a.false)) (rw c.action_kind.ensures)

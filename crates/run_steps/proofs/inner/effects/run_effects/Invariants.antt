@@ -1,0 +1,25 @@
+use Prim.Native.Nat.{ℕ, ◌+◌, ◌-◌, ◌≤◌, ◌<◌}
+use mathlib.Core.Path.{◌≡◌, refl, sym, ap, subst, ◌∙◌}
+use mathlib.Core.Bool.{true}
+use mathlib.Core.List.{List}
+use native.Mathlib.Omega.{arith}
+use borrow.Author.Rules.{rules}
+use Rattle.grammar.specs.Slots.{slots_of}
+use Rattle.grammar.specs.declared.values.Slot.{Slot}
+use Rattle.grammar.specs.declared.evaluation.Evaluated.{Evaluated}
+use Rattle.graph_tables.specs.Words.{variable_count, effect_count, effect_var}
+use Rattle.run_steps.specs.Steps.{Effected, assigned, unchanged, effects_below}
+use Rattle.run_steps.specs.Inner.{VarsLeft}
+use Rattle.run_steps.proofs.StepLaws.{evaluated_anew, effects_turn, effects_stop}
+use Rattle.run_steps.proofs.VarLaws.{vars_same, vars_more}
+use Rattle.run_steps.proofs.inner.effects.run_effects.Given as goal
+
+abbrev pub invariant-loop-e : goal.invariant-loop-e
+invariant-loop-e l =
+    (l.e ≤ l.e-end)
+    × ((effects_below l.t l.a (unchanged (slots_of l.initial.vars) l.word) l.e).fits ≡ true)
+    × (l.left ≡ (effects_below l.t l.a (unchanged (slots_of l.initial.vars) l.word) l.e).word)
+    × VarsLeft (variable_count l.t) l.initial.vars l.vars (effects_below l.t l.a (unchanged (slots_of l.initial.vars) l.word) l.e).vars
+
+abbrev pub decreases-loop-e : goal.decreases-loop-e
+decreases-loop-e l = l.e-end - l.e

@@ -1,0 +1,15 @@
+use mathlib.Core.Path.{◌∙◌}
+use borrow.Author.Rules.{rules}
+use Rattle.run_steps.specs.Steps.{invariants_hold}
+use Rattle.run_steps.proofs.LimitLaws.{invariants_of_location}
+use Rattle.run_steps.proofs.inner.limits.invariants_hold.Goals as goal
+
+pub limits_hold-requires : goal.limits_hold-requires
+limits_hold-requires c =
+    let s = c.before.before.before.before in
+    let k = invariants_of_location s.requires.0 s.requires.1 in
+    rw (c.invariant_count.ensures, c.invariant_group.ensures) (k.0, k.1, k.2, s.requires.2)
+
+pub returns : goal.returns
+unfolding invariants_hold
+returns c = c.limits_hold.ensures ∙ rw (c.invariant_count.ensures, c.invariant_group.ensures)

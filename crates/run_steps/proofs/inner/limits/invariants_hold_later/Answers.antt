@@ -1,0 +1,53 @@
+use Prim.Native.Nat.{◌-◌, ◌≤◌}
+use mathlib.Core.Path.{◌≡◌, sym}
+use mathlib.Core.Bool.{true}
+use native.Mathlib.Omega.{arith}
+use borrow.Author.Rules.{rules}
+use Rattle.laws.specs.Below.{all_below}
+use Rattle.laws.proofs.BelowLaws.{all_none, all_more, all_fails, all_done}
+use Rattle.laws.proofs.Tests.{held, failed}
+use Rattle.graph_tables.specs.Words.{clock_count, invariant_count, invariant_group}
+use Rattle.run_steps.specs.Steps.{limit_holds, limits_hold, invariants_hold, shifted_below}
+use Rattle.run_steps.proofs.LimitLaws.{invariants_of_location}
+use Rattle.run_steps.proofs.inner.limits.invariants_hold_later.Goals as goal
+
+pub loop-i-init : goal.loop-i-init
+loop-i-init c = (search rules, all_none _)
+
+pub limit_holds_later-requires : goal.limit_holds_later-requires
+limit_holds_later-requires c =
+    let n = c.before.before in
+    let s = n.before.before.before.before in
+    let k = invariants_of_location s.requires.0 s.requires.1 in
+    let i = c.loop-i.i in
+    rw n.invariant_group-g.ensures (
+      s.requires.0,
+      k.1,
+      omega (arith, k.2.few, n.invariant_count-i-end.ensures),
+      k.2.clock i (omega (arith, n.invariant_count-i-end.ensures)),
+      s.requires.2,
+      s.requires.3,
+    )
+
+pub returns-then-not-limit_holds_later : goal.returns-then-not-limit_holds_later
+unfolding invariants_hold limits_hold
+returns-then-not-limit_holds_later c =
+    let h = c.before in
+    let l = h.before.before in
+    let n = l.before in
+    let holds = rw n.invariant_group-g.ensures at h.limit_holds_later.ensures in
+    sym (all_fails _ _ l.loop-i.i (omega (arith, n.invariant_count-i-end.ensures)) (failed holds c.if-not-limit_holds_later.true-raw))
+
+pub loop-i-preserved : goal.loop-i-preserved
+loop-i-preserved c =
+    let h = c.before in
+    let l = h.before.before in
+    let holds = rw l.invariant_group-g.ensures at h.limit_holds_later.ensures in
+    (omega arith, all_more _ _ l.loop-i.invariant.1 (held holds c.if-not-limit_holds_later.false-raw))
+
+pub returns : goal.returns
+unfolding invariants_hold limits_hold
+returns c =
+    let l = c.before in
+    let e = l.invariant_count-i-end.ensures in
+    sym (all_done _ _ l.loop-i.i (omega (arith, e)) (omega (arith, e)) l.loop-i.invariant.1)

@@ -1,0 +1,13 @@
+use native.Mathlib.Omega.{arith}
+use borrow.Author.Rules.{rules}
+use Rattle.run_steps.proofs.KeyLaws.{leaves_first}
+use Rattle.run_steps.proofs.inner.waiting.leaves_by.Goals as goal
+
+pub returns : goal.returns
+returns c =
+    let k = c.before in
+    rw (c.post_of.ensures, k.key_of-key.ensures) (leaves_first _ _ _ k.requires.2)
+
+pub overflow_sub-result : goal.overflow_sub-result
+overflow_sub-result c =
+    omega (arith, c.post_of.ensures)

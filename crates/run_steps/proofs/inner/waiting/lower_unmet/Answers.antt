@@ -1,0 +1,14 @@
+use mathlib.Core.Path.{ap, ◌∙◌}
+use mathlib.Core.Bool.{not}
+use native.Mathlib.Omega.{arith}
+use borrow.Author.Rules.{rules}
+use Rattle.run_steps.specs.Waiting.{lower_unmet}
+use Rattle.run_steps.proofs.inner.waiting.lower_unmet.Goals as goal
+
+pub returns : goal.returns
+unfolding lower_unmet
+returns c = let l = c.before in rw (c.lower_met.ensures, l.lower_of.ensures, l.clock_of.ensures)
+
+pub offset_bounds-clocks-clock_of : goal.offset_bounds-clocks-clock_of
+offset_bounds-clocks-clock_of c =
+    omega (arith, c.clock_of.ensures)

@@ -1,0 +1,14 @@
+use mathlib.Core.Path.{ap, ◌∙◌}
+use mathlib.Core.Bool.{not}
+use native.Mathlib.Omega.{arith}
+use borrow.Author.Rules.{rules}
+use Rattle.run_steps.specs.Waiting.{upper_holds}
+use Rattle.run_steps.proofs.inner.waiting.upper_holds.Goals as goal
+
+pub returns : goal.returns
+unfolding upper_holds
+returns c = let l = c.before in rw (c.upper_met.ensures, l.upper_of.ensures, l.clock_of.ensures)
+
+pub offset_bounds-clocks-clock_of : goal.offset_bounds-clocks-clock_of
+offset_bounds-clocks-clock_of c =
+    omega (arith, c.clock_of.ensures)

@@ -1,0 +1,5 @@
+use borrow.Author.Rules.{rules}
+use Rattle.system_tables.proofs.inner.writers.set_communication.Goals as goal
+
+pub returns : goal.returns
+returns c = rw c.communication_word-w.ensures
