@@ -17,7 +17,7 @@ use Rattle.channel_system.specs.Steps.{system_fits, run_of}
 use Rattle.channel_system.specs.Listing.{nosync_on}
 use Rattle.channel_system.proofs.FittingLaws.{fits_table_lem, fits_state}
 use Rattle.channel_system.proofs.transitions.nosync_possible_transitions_pg.Goals as goal
-use Rattle.channel_system.proofs.transitions.nosync_possible_transitions_pg.Goals.{After-graph_at, After-process_count, Else-graph_count-g, Start}
+use Rattle.channel_system.proofs.transitions.nosync_possible_transitions_pg.Goals.{After-process_count, Else-graph_count-g, Start}
 
 pub returns-then-not-system_fits : goal.returns-then-not-system_fits
 unfolding nosync_on
@@ -59,8 +59,8 @@ process_count-requires c =
 
 -- the run has as many processes as the graph
 module _ (c : After-process_count) where
-  abbrev graph : After-graph_at
-  graph = c.before
+  abbrev graph : After-process_count
+  graph = c
 
   abbrev else2 : Else-graph_count-g
   else2 = graph.before

@@ -10,4 +10,4 @@ pub returns : goal.returns
 unfolding clock_known
 returns c =
     let a = c.args in
-    ap (λ (n : ℕ). ltb (handed_clock a.t2 a.i) n) c.clock_count.ensures
+    ap (λ (n : ℕ). ltb (handed_clock a.handed a.i) n) c.clock_count.ensures

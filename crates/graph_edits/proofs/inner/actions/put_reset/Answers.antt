@@ -15,6 +15,6 @@ returns c =
       o.open_gap.ensures,
       n.reset_cell-2.ensures,
       p.reset_cell.ensures,
-      q.reset_place-p.ensures.0,
+      q.reset_place-p.ensures.value,
       q.reset_count-n.ensures,
     )

@@ -8,4 +8,4 @@ returns c =
     let n = c.before in
     let r = n.before in
     let s = r.args in
-    (cc (reset_row s.t.now s.a n.reset_count.result s.clock), omega arith)
+    record { value = cc (reset_row s.t.now s.a n.reset_count.result s.clock); upper_bound = omega arith }

@@ -20,7 +20,7 @@ returns c =
       o.open_gap.ensures,
       n.limit_row-2.ensures,
       p.limit_row.ensures,
-      q.limit_place-p.ensures.0,
+      q.limit_place-p.ensures.value,
       b.bound_word-lower.ensures,
       c.bound_word-upper.ensures,
     )

@@ -22,4 +22,4 @@ pub returns : goal.returns
 returns c =
     let l = c.before in
     let a = l.args in
-    l.loop-n.invariant.1.1 ∙ ap (with_limits a.t.now a.g a.t3) (omega arith)
+    l.loop-n.invariant.1.1 ∙ ap (with_limits a.t.now a.g a.handed) (omega arith)

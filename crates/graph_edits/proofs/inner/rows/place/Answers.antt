@@ -32,11 +32,11 @@ pub returns-then-k-t : goal.returns-then-k-t
 returns-then-k-t c =
     let l = c.before.before.before in
     let a = l.args in
-    let e = l.loop-i.invariant.1.0 in (
-      sym (l.loop-i.invariant.1.1
-          ∙ place_here (number_at a.t.now a.base a.w) a.k l.loop-i.i a.n (omega arith) (rw e at c.if-k-t.true)),
-      l.loop-i.invariant.0,
-    )
+    let e = l.loop-i.invariant.1.0 in record {
+      value = sym (l.loop-i.invariant.1.1
+          ∙ place_here (number_at a.t.now a.base a.w) a.k l.loop-i.i a.n (omega arith) (rw e at c.if-k-t.true));
+      upper_bound = l.loop-i.invariant.0;
+    }
 
 pub overflow_add-at : goal.overflow_add-at
 overflow_add-at c =
@@ -63,4 +63,7 @@ pub returns : goal.returns
 returns c =
     let l = c.before in
     let a = l.args in
-    (sym (l.loop-i.invariant.1.1 ∙ place_end (number_at a.t.now a.base a.w) a.k l.loop-i.i a.n (omega arith)), omega arith)
+    record {
+      value = sym (l.loop-i.invariant.1.1 ∙ place_end (number_at a.t.now a.base a.w) a.k l.loop-i.i a.n (omega arith));
+      upper_bound = omega arith;
+    }

@@ -5,4 +5,4 @@ pub returns : goal.returns
 returns c =
     let q = c.before.before in
     let p = q.before.before in
-    rw (q.put_parts.ensures, p.transition_place-p.ensures.0, p.transition_count-n.ensures)
+    rw (q.put_parts.ensures, p.transition_place-p.ensures.value, p.transition_count-n.ensures)

@@ -2,4 +2,4 @@ use borrow.Author.Rules.{rules}
 use Rattle.graph_edits.proofs.inner.transitions.transition_place.Goals as goal
 
 pub returns : goal.returns
-returns c = (rw (← c.requires.2) c.place.ensures.0, c.place.ensures.1)
+returns c = record { value = rw (← c.requires.2) c.place.ensures.value; upper_bound = c.place.ensures.upper_bound }

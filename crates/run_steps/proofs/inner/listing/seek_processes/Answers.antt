@@ -9,7 +9,7 @@ use Rattle.run_steps.specs.declared.inner.listing.Sought.TheVariants.{Left}
 use Rattle.run_steps.proofs.KeyLaws.{asked}
 use Rattle.run_steps.proofs.ListingLaws.{join_none, join_more, join_found, join_done, process_sought}
 use Rattle.run_steps.proofs.inner.listing.seek_processes.Goals as goal
-use Rattle.run_steps.proofs.inner.listing.seek_processes.Goals.{After-seek_process-sought, At-loop-p, Start}
+use Rattle.run_steps.proofs.inner.listing.seek_processes.Goals.{After-seek_process-sought, Start}
 
 pub loop-p-init : goal.loop-p-init
 loop-p-init c = (search rules, join_none _ _)
@@ -35,8 +35,8 @@ seek_process-sought-requires c =
 
 -- what was sought, by the place and the action
 module _ (c : After-seek_process-sought) where
-  abbrev at : At-loop-p
-  at = c.before.before.before.before
+  abbrev at : After-seek_process-sought
+  at = c
 
   abbrev from : Start
   from = at.before.before.before.before.before.before
