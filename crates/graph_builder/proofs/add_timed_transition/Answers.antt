@@ -18,8 +18,8 @@ pub returns-in-Refused : goal.returns-in-Refused
 unfolding add_transition_of
 returns-in-Refused c =
     let l = c in
-    let k = l.before.before in
-    parts (done_refused k.args.t.now _ (sym k.transition_check-check.ensures ∙ l.check-1.given.1))
+    let k = c.before in
+    parts (done_refused k.args.t.now _ (sym k.transition_check-check.ensures ∙ l.in-Refused.is))
 
 pub key_with-key-requires : goal.key_with-key-requires
 key_with-key-requires c =
@@ -31,8 +31,8 @@ key_with-key-requires c =
 pub put_transition-requires : goal.put_transition-requires
 put_transition-requires c =
     let y = c.before in
-    let e = y.before.before in
-    let k = e.before in
+    let e = c.before.before.before in
+    let k = c.before.before.before.before in
     let r = transition_ready _ _ _ _ _ _ _ (sym k.transition_check-check.ensures ∙ e.in_default.is) in
     (words_of _ true r.formed, r.room, (r.guard y.if-guarded.true).short, r.limits.0)
 
@@ -40,10 +40,10 @@ pub returns-then-guarded : goal.returns-then-guarded
 unfolding add_transition_of
 returns-then-guarded c =
     let p = c.before.before in
-    let y = p.before.before in
-    let q = y.before in
-    let e = q.before in
-    let k = e.before in
+    let y = c.before.before.before.before in
+    let q = c.before.before.before.before.before in
+    let e = c.before.before.before.before.before.before in
+    let k = c.before.before.before.before.before.before.before in
     let a = k.args in
     parts
     (done_accepted a.t.now (sym k.transition_check-check.ensures ∙ e.in_default.is)
@@ -55,7 +55,7 @@ returns-then-guarded c =
 pub put_transition-requires-2 : goal.put_transition-requires-2
 put_transition-requires-2 c =
     let e = c.before.before.before.before in
-    let k = e.before in
+    let k = c.before.before.before.before.before in
     let r = transition_ready _ _ _ _ _ _ _ (sym k.transition_check-check.ensures ∙ e.in_default.is) in
     (words_of _ true r.formed, r.room, omega arith, r.limits.0)
 
@@ -63,10 +63,10 @@ pub returns : goal.returns
 unfolding add_transition_of
 returns c =
     let p = c.before.before in
-    let y = p.before.before.before in
-    let q = y.before in
-    let e = q.before in
-    let k = e.before in
+    let y = c.before.before.before.before.before in
+    let q = c.before.before.before.before.before.before in
+    let e = c.before.before.before.before.before.before.before in
+    let k = c.before.before.before.before.before.before.before.before in
     let a = k.args in
     parts
     (done_accepted a.t.now (sym k.transition_check-check.ensures ∙ e.in_default.is)

@@ -22,7 +22,7 @@ pub returns-then-process_count-eq0 : goal.returns-then-process_count-eq0
 unfolding build_of
 returns-then-process_count-eq0 c =
     let n = c.before in
-    let w = n.before in
+    let w = c.before.before in
     let t = w.args.t.now in
     passed _ (held w.well_formed-2.ensures w.if-not-well_formed.false-raw)
     (stopped _ _ (le-ltb 0 (process_count t) (omega (arith, n.process_count.ensures, c.if-process_count-eq0.true))))
@@ -31,7 +31,7 @@ pub returns : goal.returns
 unfolding build_of
 returns c =
     let n = c.before in
-    let w = n.before in
+    let w = c.before.before in
     let t = w.args.t.now in
     passed _ (held w.well_formed-2.ensures w.if-not-well_formed.false-raw)
     (passed _ (lt-ltb 0 (process_count t) (omega (arith, n.process_count.ensures, c.if-process_count-eq0.false))) refl)

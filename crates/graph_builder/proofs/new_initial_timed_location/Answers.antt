@@ -30,32 +30,32 @@ pub returns-in-Refused : goal.returns-in-Refused
 unfolding new_initial_of
 returns-in-Refused c =
     let l = c in
-    let k = l.before.before in
-    parts (placed_refused k.args.t.now _ _ (sym k.initial_check-check.ensures ∙ l.check-1.given.1))
+    let k = c.before in
+    parts (placed_refused k.args.t.now _ _ (sym k.initial_check-check.ensures ∙ l.in-Refused.is))
 
 pub location_count-n-requires : goal.location_count-n-requires
 location_count-n-requires c =
     let e = c in
-    let k = e.before.before in
+    let k = c.before.before in
     words_of _ true (initial_ready _ _ (sym c.initial_check-check.ensures ∙ c.in_default.is)).location.formed
 
 pub put_process-requires : goal.put_process-requires
 put_process-requires c =
     let e = c.before.before in
-    let k = e.before.before in
+    let k = c.before.before.before.before in
     let r = initial_ready _ _ (sym c.initial_check-check.ensures ∙ c.in_default.is) in
     (words_of _ true r.location.formed, r.room)
 
 pub put_location-requires : goal.put_location-requires
 put_location-requires c =
     let p = c.before.before.before in
-    let n = p.before.before in
-    let e = n.before in
-    let k = e.before.before in
+    let n = c.before.before.before.before.before in
+    let e = c.before.before.before.before.before.before in
+    let k = c.before.before.before.before.before.before.before.before in
     let t = k.args.t.now in
     let r = initial_ready _ _ (sym c.initial_check-check.ensures ∙ c.in_default.is) in
     let u = p.put_process.ensures in
-    let more : location_count p.put_process.new.0 ≡ location_count t =
+    let more : location_count p.put_process.new.t ≡ location_count t =
     ap location_count u ∙ process_locations t (process_count t) n.location_count-n.result in (
       ap length u ∙ process_words t (process_count t) n.location_count-n.result
           ∙ words_of _ true r.location.formed,
@@ -66,9 +66,9 @@ put_location-requires c =
 pub overflow_cast-result : goal.overflow_cast-result
 overflow_cast-result c =
     let p = c.before.before.before.before.before.before in
-    let n = p.before.before in
-    let e = n.before in
-    let k = e.before.before in
+    let n = c.before.before.before.before.before.before.before.before in
+    let e = c.before.before.before.before.before.before.before.before.before in
+    let k = c.before.before.before.before.before.before.before.before.before.before.before in
     let r = initial_ready _ _ (sym c.initial_check-check.ensures ∙ c.in_default.is) in
     let small : n.location_count-n.result < word32 = omega (arith, n.location_count-n.ensures, r.location.room) in
     search (rules, small)
@@ -77,12 +77,12 @@ pub returns : goal.returns
 unfolding new_initial_of
 returns c =
     let q = c.before.before in
-    let p = q.before.before.before.before in
-    let n = p.before.before in
-    let e = n.before in
-    let k = e.before.before in
+    let p = c.before.before.before.before.before.before in
+    let n = c.before.before.before.before.before.before.before.before in
+    let e = c.before.before.before.before.before.before.before.before.before in
+    let k = c.before.before.before.before.before.before.before.before.before.before.before in
     let a = k.args in
-    let same : p.put_process.new.0 ≡ with_process a.t.now (location_count a.t.now) =
+    let same : p.put_process.new.t ≡ with_process a.t.now (location_count a.t.now) =
     p.put_process.ensures ∙ ap (with_process a.t.now) n.location_count-n.ensures in
     parts
     (placed_accepted a.t.now (sym c.initial_check-check.ensures ∙ c.in_default.is) n.location_count-n.ensures

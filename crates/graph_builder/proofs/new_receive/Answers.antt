@@ -13,27 +13,27 @@ pub returns-in-Refused : goal.returns-in-Refused
 unfolding new_receive_of
 returns-in-Refused c =
     let l = c in
-    let k = l.before.before in
-    parts (placed_refused k.args.t.now _ _ (sym k.receive_check-check.ensures ∙ l.check-1.given.1))
+    let k = c.before in
+    parts (placed_refused k.args.t.now _ _ (sym k.receive_check-check.ensures ∙ l.in-Refused.is))
 
 pub action_count-n-requires : goal.action_count-n-requires
 action_count-n-requires c =
     let e = c in
-    let k = e.before.before in
+    let k = c.before.before in
     words_of _ true (receive_ready _ _ (sym c.receive_check-check.ensures ∙ c.in_default.is)).formed
 
 pub put_receive-requires : goal.put_receive-requires
 put_receive-requires c =
     let e = c.before.before in
-    let k = e.before.before in
+    let k = c.before.before.before.before in
     let r = receive_ready _ _ (sym c.receive_check-check.ensures ∙ c.in_default.is) in
     (words_of _ true r.formed, r.room, r.few)
 
 pub overflow_cast-result : goal.overflow_cast-result
 overflow_cast-result c =
     let n = c.before.before.before.before in
-    let e = n.before in
-    let k = e.before.before in
+    let e = c.before.before.before.before.before in
+    let k = c.before.before.before.before.before.before.before in
     let r = receive_ready _ _ (sym c.receive_check-check.ensures ∙ c.in_default.is) in
     let small : n.action_count-n.result < word32 = omega (arith, n.action_count-n.ensures, r.room) in
     search (rules, small)
@@ -42,8 +42,8 @@ pub returns : goal.returns
 unfolding new_receive_of
 returns c =
     let p = c.before.before in
-    let n = p.before.before in
-    let e = n.before in
-    let k = e.before.before in
+    let n = c.before.before.before.before in
+    let e = c.before.before.before.before.before in
+    let k = c.before.before.before.before.before.before.before in
     parts (placed_accepted k.args.t.now (sym c.receive_check-check.ensures ∙ c.in_default.is)
     n.action_count-n.ensures p.put_receive.ensures)

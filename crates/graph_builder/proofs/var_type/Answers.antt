@@ -20,14 +20,14 @@ pub returns-then-variable_count-v : goal.returns-then-variable_count-v
 unfolding var_type_of
 returns-then-variable_count-v c =
     let n = c.before in
-    let w = n.before.before in
+    let w = c.before.before.before in
     passed _ (held w.well_formed-2.ensures w.if-not-well_formed.false-raw)
     (stopped _ _ (le-ltb _ _ (rw n.variable_count.ensures at c.if-variable_count-v.true)))
 
 pub kind_at-requires : goal.kind_at-requires
 kind_at-requires c =
     let n = c.before in
-    let w = n.before.before in
+    let w = c.before.before.before in
     let h = held w.well_formed-2.ensures w.if-not-well_formed.false-raw in
     (words_of _ true h, omega (arith, (counted_of _ true h).variables, n.variable_count.ensures, c.if-variable_count-v.false))
 
@@ -35,9 +35,9 @@ pub returns-then-kind_at-eq0 : goal.returns-then-kind_at-eq0
 unfolding var_type_of
 returns-then-kind_at-eq0 c =
     let k = c.before in
-    let b = k.before in
-    let n = b.before in
-    let w = n.before.before in
+    let b = c.before.before in
+    let n = c.before.before.before in
+    let w = c.before.before.before.before.before in
     passed _ (held w.well_formed-2.ensures w.if-not-well_formed.false-raw)
     (passed _ (lt-ltb _ _ (rw n.variable_count.ensures at b.if-variable_count-v.false))
     (rw (eq-eqb _ _ (rw k.kind_at.ensures at c.if-kind_at-eq0.true))))
@@ -46,9 +46,9 @@ pub returns : goal.returns
 unfolding var_type_of
 returns c =
     let k = c.before in
-    let b = k.before in
-    let n = b.before in
-    let w = n.before.before in
+    let b = c.before.before in
+    let n = c.before.before.before in
+    let w = c.before.before.before.before.before in
     passed _ (held w.well_formed-2.ensures w.if-not-well_formed.false-raw)
     (passed _ (lt-ltb _ _ (rw n.variable_count.ensures at b.if-variable_count-v.false))
     (rw (ne_eqb _ _ (rw k.kind_at.ensures at c.if-kind_at-eq0.false))))

@@ -15,7 +15,7 @@ accepted e = sym e.plain_check-plain.ensures ∙ e.in_default.is
 
 pub returns-in-Refused : goal.returns-in-Refused
 unfolding action_effect_check
-returns-in-Refused c = let p = c in then_stops _ (sym p.plain_check-plain.ensures ∙ p.plain-1.given.1)
+returns-in-Refused c = let p = c in then_stops _ (sym p.plain_check-plain.ensures ∙ p.in-Refused.is)
 
 pub effect_room-requires : goal.effect_room-requires
 effect_room-requires c =

@@ -9,7 +9,7 @@ pub returns-in-Refused : goal.returns-in-Refused
 unfolding conditions_check
 returns-in-Refused c =
     let l = c in
-    then_stops _ (sym l.limits_check-limits.ensures ∙ l.limits-1.given.1)
+    then_stops _ (sym l.limits_check-limits.ensures ∙ l.in-Refused.is)
 
 pub returns : goal.returns
 unfolding conditions_check

@@ -11,7 +11,7 @@ pub returns-in-Refused : goal.returns-in-Refused
 unfolding guard_room
 returns-in-Refused c =
     let l = c in
-    then_stops _ (sym l.if_guarded-guard.ensures ∙ l.guard-1.given.1)
+    then_stops _ (sym l.if_guarded-guard.ensures ∙ l.in-Refused.is)
 
 pub returns-then-transition_count-ge-TRANSITIONS : goal.returns-then-transition_count-ge-TRANSITIONS
 unfolding guard_room

@@ -6,20 +6,20 @@ use Rattle.graph_checks.proofs.ReadyActions.{assigned_short}
 use mathlib.Core.Path.{◌≡◌, sym, ◌∙◌}
 use borrow.Author.Rules.{rules}
 use Rattle.graph_checks.proofs.checks.known_effect_check.Goals as goal
-use Rattle.graph_checks.proofs.checks.known_effect_check.Goals.{After-assigned_check-assigned, After-type_of-typed}
+use Rattle.graph_checks.proofs.checks.known_effect_check.Goals.{After-assigned_check-assigned}
 
-typed : (y : After-type_of-typed)
+typed : (y : After-assigned_check-assigned)
     → let s = y.args in y.type_of-typed.result ≡ type_of (kinds_of s.t.now) s.items.now
 typed y = rw y.kinds_of.ensures at y.type_of-typed.ensures
 
 assigned : (a : After-assigned_check-assigned)
     → let s = a.args in a.assigned_check-assigned.result
     ≡ assigned_check s.t.now s.v (type_of (kinds_of s.t.now) s.items.now)
-assigned a = rw (typed a.before) at a.assigned_check-assigned.ensures
+assigned a = rw (typed a) at a.assigned_check-assigned.ensures
 
 pub returns-in-Refused : goal.returns-in-Refused
 unfolding known_effect_check
-returns-in-Refused c = let p = c in then_stops _ (sym (assigned (goal.at.returns-in-Refused c).After-assigned_check-assigned) ∙ p.assigned-1.given.1)
+returns-in-Refused c = let p = c in then_stops _ (sym (assigned (goal.at.returns-in-Refused c).After-assigned_check-assigned) ∙ p.in-Refused.is)
 
 pub action_effect_check-requires : goal.action_effect_check-requires
 action_effect_check-requires c =
@@ -32,4 +32,4 @@ unfolding known_effect_check
 returns c =
     let e = c.before in
     let a = e.before in
-    then_on (sym (assigned (goal.at.returns c).After-assigned_check-assigned) ∙ e.in_default.is) (rw (typed (goal.at.returns c).After-type_of-typed) at c.action_effect_check.ensures)
+    then_on (sym (assigned (goal.at.returns c).After-assigned_check-assigned) ∙ e.in_default.is) (rw (typed (goal.at.returns c).After-assigned_check-assigned) at c.action_effect_check.ensures)

@@ -24,7 +24,7 @@ returns-in-Refused c =
     let k = l.before.before in
     let w = k.before in
     passed (refused_by 32) (held w.well_formed-2.ensures w.if-not-well_formed.false-raw)
-    (then_stops _ (sym k.limits_check-limits.ensures ∙ l.limits-1.given.1))
+    (then_stops _ (sym k.limits_check-limits.ensures ∙ l.in-Refused.is))
 
 pub location_count-requires : goal.location_count-requires
 location_count-requires c =

@@ -20,7 +20,7 @@ returns-in-Refused c =
     let k = x.before in
     let l = k.before.before.before in
     each_stops _ _ l.loop-i.i _ (omega arith) l.loop-i.invariant.1
-    (sym (rw (k.kinds_of.ensures, k.choose.ensures) at x.expression_check-check.ensures) ∙ p.check-1.given.1)
+    (sym (rw (k.kinds_of.ensures, k.choose.ensures) at x.expression_check-check.ensures) ∙ p.in-Refused.is)
 
 pub loop-i-preserved : goal.loop-i-preserved
 unfolding expression_check

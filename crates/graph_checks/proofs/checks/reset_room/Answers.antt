@@ -13,7 +13,7 @@ pub returns-in-Refused : goal.returns-in-Refused
 unfolding room_for_reset
 returns-in-Refused c =
     let l = c in
-    then_stops _ (sym l.plain_check-plain.ensures ∙ l.plain-1.given.1)
+    then_stops _ (sym l.plain_check-plain.ensures ∙ l.in-Refused.is)
 
 pub reset_count-requires : goal.reset_count-requires
 reset_count-requires c =

@@ -43,7 +43,7 @@ returns-in-Refused c =
     let b = m.before in
     passed (Refused BadState) (formed (goal.at.returns-in-Refused c).Else-not-well_formed)
     (passed (Refused TableFull) (le-leb _ _ b.if-count-gt-MESSAGE.false)
-    (then_stops _ (checked (goal.at.returns-in-Refused c).After-message_check-message ∙ p.message-1.given.1)))
+    (then_stops _ (checked (goal.at.returns-in-Refused c).After-message_check-message ∙ p.in-Refused.is)))
 
 pub send_room-requires : goal.send_room-requires
 send_room-requires c =

@@ -23,7 +23,7 @@ returns-in-Refused c =
     let k = l.before.before in
     let w = k.before in
     passed (refused_by 32) (held w.well_formed-2.ensures w.if-not-well_formed.false-raw)
-    (then_stops _ (sym k.ends_check-ends.ensures ∙ l.ends-1.given.1))
+    (then_stops _ (sym k.ends_check-ends.ensures ∙ l.in-Refused.is))
 
 pub conditions_check-requires : goal.conditions_check-requires
 conditions_check-requires c =
