@@ -1,4 +1,4 @@
-use Rattle.std.proofs.Common.{refl, rules, le-ltb, lt-ltb}
+use Rattle.std.proofs.Common.{refl, le-ltb, lt-ltb}
 use Rattle.laws.proofs.BelowLaws.{and_yes, and_no}
 use Rattle.queues.specs.Fits.{counts_fit}
 use Rattle.queues.proofs.inner.fits.counts_fit.Goals as goal

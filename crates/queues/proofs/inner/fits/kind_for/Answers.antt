@@ -1,4 +1,4 @@
-use Rattle.std.proofs.Common.{length, arith, rules}
+use Rattle.std.proofs.Common.{length, arith}
 use Rattle.queues.proofs.MessageLaws.{slots_width}
 use Rattle.queues.proofs.FitLaws.{kind_place_lem}
 use Rattle.queues.proofs.inner.fits.kind_for.Goals as goal

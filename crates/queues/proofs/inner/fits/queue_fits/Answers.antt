@@ -1,4 +1,4 @@
-use Rattle.std.proofs.Common.{◌≡◌, ℕ, true, leb, length, ap, ◌∙◌, arith, rules, le-leb}
+use Rattle.std.proofs.Common.{◌≡◌, ℕ, true, leb, length, ap, ◌∙◌, arith, le-leb}
 use borrow.Author.Tests.{lt-leb}
 use Rattle.laws.specs.Below.{all_below}
 use Rattle.laws.proofs.BelowLaws.{and_yes, and_no}

@@ -1,4 +1,4 @@
-use Rattle.std.proofs.Common.{◌∙◌, rules, eq-eqb, ne_eqb}
+use Rattle.std.proofs.Common.{◌∙◌, eq-eqb, ne_eqb}
 use Rattle.laws.proofs.BelowLaws.{and_yes, and_no}
 use Rattle.queues.specs.Fits.{slot_fits}
 use Rattle.queues.proofs.inner.fits.slot_fits.Goals as goal

@@ -1,8 +1,6 @@
-use Rattle.std.proofs.Common.{◌≡◌, ◌-◌, ◌≤◌, true, sym, arith, rules}
-use Rattle.laws.specs.Below.{all_below}
+use Rattle.std.proofs.Common.{sym, arith, rules}
 use Rattle.laws.proofs.BelowLaws.{all_none, all_more, all_fails, all_done}
 use Rattle.laws.proofs.Tests.{held, failed}
-use Rattle.queues.specs.Fits.{slot_fits}
 use Rattle.queues.proofs.inner.fits.slots_fit.Goals as goal
 
 pub loop-i-init : goal.loop-i-init

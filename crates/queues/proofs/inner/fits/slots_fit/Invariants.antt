@@ -1,7 +1,5 @@
-use Rattle.std.proofs.Common.{◌≡◌, ◌-◌, ◌≤◌, true, sym, arith, rules}
+use Rattle.std.proofs.Common.{◌≡◌, ◌-◌, ◌≤◌, true}
 use Rattle.laws.specs.Below.{all_below}
-use Rattle.laws.proofs.BelowLaws.{all_none, all_more, all_fails, all_done}
-use Rattle.laws.proofs.Tests.{held, failed}
 use Rattle.queues.specs.Fits.{slot_fits}
 use Rattle.queues.proofs.inner.fits.slots_fit.Given as goal
 

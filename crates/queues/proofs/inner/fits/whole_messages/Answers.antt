@@ -1,4 +1,4 @@
-use Rattle.std.proofs.Common.{◌≡◌, ℕ, ◌%◌, eqb, sym, ap, ◌∙◌, arith, rules}
+use Rattle.std.proofs.Common.{◌≡◌, ℕ, ◌%◌, eqb, sym, ap, ◌∙◌, arith}
 use native.Mathlib.Nat.{mod-zero}
 use Rattle.queues.specs.Queues.{slots_for}
 use Rattle.queues.specs.Fits.{whole_messages}

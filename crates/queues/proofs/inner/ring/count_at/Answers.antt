@@ -1,4 +1,4 @@
-use Rattle.std.proofs.Common.{arith, rules}
+use Rattle.std.proofs.Common.{arith}
 use Rattle.queues.proofs.QueueLaws.{stored_small}
 use Rattle.queues.proofs.inner.ring.count_at.Goals as goal
 

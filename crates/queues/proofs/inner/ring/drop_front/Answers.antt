@@ -1,4 +1,4 @@
-use Rattle.std.proofs.Common.{arith, rules}
+use Rattle.std.proofs.Common.{arith}
 use Rattle.queues.specs.Queues.{dropped}
 use Rattle.queues.proofs.QueueLaws.{stored_small}
 use Rattle.queues.proofs.inner.ring.drop_front.Goals as goal

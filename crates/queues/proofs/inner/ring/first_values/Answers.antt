@@ -1,6 +1,6 @@
-use Rattle.std.proofs.Common.{◌≡◌, ◌-◌, ◌<◌, ◌≤◌, refl, arith, rules}
+use Rattle.std.proofs.Common.{◌≡◌, ◌<◌, refl, arith, rules}
 use Rattle.graph_tables.specs.Sizes.{message_room}
-use Rattle.queues.specs.Queues.{stored_of, queue_of, slots_for, filled_with}
+use Rattle.queues.specs.Queues.{stored_of, queue_of, slots_for}
 use Rattle.queues.proofs.QueueLaws.{queue_length}
 use Rattle.queues.proofs.MessageLaws.{slots_few, filled_more}
 use Rattle.queues.proofs.inner.ring.first_values.Goals as goal

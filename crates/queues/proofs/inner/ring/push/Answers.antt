@@ -1,4 +1,3 @@
-use Rattle.std.proofs.Common.{rules}
 use Rattle.queues.specs.Queues.{pushed}
 use Rattle.queues.proofs.inner.ring.push.Goals as goal
 

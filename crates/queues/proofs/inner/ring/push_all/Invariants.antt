@@ -1,9 +1,5 @@
-use Rattle.std.proofs.Common.{◌≡◌, ◌-◌, ◌<◌, ◌≤◌, refl, add-one, arith, rules}
-use Rattle.laws.proofs.Copies.{one_more}
-use Rattle.graph_tables.specs.Sizes.{message_room}
-use Rattle.queues.specs.Queues.{Counted, slots_for, pushed_below, FitBelow}
-use Rattle.queues.proofs.QueueLaws.{push_counted}
-use Rattle.queues.proofs.MessageLaws.{slots_few}
+use Rattle.std.proofs.Common.{◌≡◌, ◌-◌, ◌≤◌}
+use Rattle.queues.specs.Queues.{Counted, pushed_below, FitBelow}
 use Rattle.queues.proofs.inner.ring.push_all.Given as goal
 
 abbrev pub invariant-loop-k : goal.invariant-loop-k

@@ -1,4 +1,4 @@
-use Rattle.std.proofs.Common.{sym, ap, ◌∙◌, rules}
+use Rattle.std.proofs.Common.{sym, ap, ◌∙◌}
 use Rattle.grammar.specs.declared.values.Slot.{Slot}
 use Rattle.queues.proofs.QueueLaws.{queue_at}
 use Rattle.queues.proofs.inner.ring.value_at.Goals as goal
