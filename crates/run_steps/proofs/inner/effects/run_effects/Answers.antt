@@ -1,6 +1,5 @@
-use Prim.Native.Nat.{ℕ, ◌+◌, ◌-◌, ◌≤◌, ◌<◌}
+use Prim.Native.Nat.{ℕ, ◌+◌, ◌≤◌, ◌<◌}
 use mathlib.Core.Path.{◌≡◌, refl, sym, ap, subst, ◌∙◌}
-use mathlib.Core.Bool.{true}
 use mathlib.Core.List.{List}
 use native.Mathlib.Omega.{arith}
 use borrow.Author.Rules.{rules}
@@ -13,7 +12,7 @@ use Rattle.run_steps.specs.Inner.{VarsLeft}
 use Rattle.run_steps.proofs.StepLaws.{evaluated_anew, effects_turn, effects_stop}
 use Rattle.run_steps.proofs.VarLaws.{vars_same, vars_more}
 use Rattle.run_steps.proofs.inner.effects.run_effects.Goals as goal
-use Rattle.run_steps.proofs.inner.effects.run_effects.Goals.{After-evaluate_on-evaluation, Start}
+use Rattle.run_steps.proofs.inner.effects.run_effects.Goals.{After-evaluate_on-evaluation}
 
 pub effect_count-e-end-requires : goal.effect_count-e-end-requires
 effect_count-e-end-requires c = let s = c.before.before in (s.requires.0.words, omega (arith, s.requires.0.counts.actions))
@@ -39,8 +38,8 @@ evaluate_on-evaluation-requires c =
 
 -- what the effect at hand makes of those before it
 module _ (c : After-evaluate_on-evaluation) where
-  abbrev o : Start
-  o = c.before.before.before.before.before.before.before
+  abbrev o : After-evaluate_on-evaluation
+  o = c
 
   abbrev t : List ℕ
   t = o.args.t.now

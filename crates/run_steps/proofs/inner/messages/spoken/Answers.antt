@@ -1,6 +1,5 @@
-use Prim.Native.Nat.{ℕ, ◌+◌, ◌-◌, ◌≤◌, ◌<◌}
+use Prim.Native.Nat.{ℕ, ◌+◌, ◌≤◌, ◌<◌}
 use mathlib.Core.Path.{◌≡◌, refl, sym, ap, ◌∙◌}
-use mathlib.Core.Bool.{true}
 use mathlib.Core.List.{List}
 use native.Mathlib.Omega.{arith}
 use borrow.Author.Rules.{rules}
@@ -15,7 +14,7 @@ use Rattle.run_steps.proofs.StepLaws.{evaluated_anew}
 use Rattle.run_steps.proofs.MessageLaws.{spoken_turn, spoken_stop}
 use Rattle.run_steps.proofs.inner.messages.spoken.Invariants.{saying}
 use Rattle.run_steps.proofs.inner.messages.spoken.Goals as goal
-use Rattle.run_steps.proofs.inner.messages.spoken.Goals.{After-evaluate_on-evaluation, Start}
+use Rattle.run_steps.proofs.inner.messages.spoken.Goals.{After-evaluate_on-evaluation}
 
 pub effect_count-e-end-requires : goal.effect_count-e-end-requires
 effect_count-e-end-requires c = let s = c.before.before.before.before in (s.requires.0.words, omega (arith, s.requires.0.counts.actions))
@@ -42,8 +41,8 @@ begun t a vars word m e = ap (λ (m : Message). spoken_below t a vars (saying m.
 
 -- what the expression at hand makes of those before it
 module _ (c : After-evaluate_on-evaluation) where
-  abbrev o : Start
-  o = c.before.before.before.before.before.before.before.before.before
+  abbrev o : After-evaluate_on-evaluation
+  o = c
 
   abbrev t : List ℕ
   t = o.args.t.now
