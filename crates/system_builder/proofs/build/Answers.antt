@@ -29,7 +29,7 @@ pub returns-then-not-all_started : goal.returns-then-not-all_started
 unfolding build_system_of
 returns-then-not-all_started c =
     let s = c.before in
-    let n = s.before in
+    let n = c.before.before in
     passed (refused_by 32) (formed (goal.at.returns-then-not-all_started c).Else-not-system_formed)
     (stopped (refused_by 29) _ (failed (rw n.graph_count.ensures at s.all_started.ensures) c.if-not-all_started.true-raw))
 
@@ -37,6 +37,6 @@ pub returns : goal.returns
 unfolding build_system_of
 returns c =
     let s = c.before in
-    let n = s.before in
+    let n = c.before.before in
     passed (refused_by 32) (formed (goal.at.returns c).Else-not-system_formed)
     (passed (refused_by 29) (held (rw n.graph_count.ensures at s.all_started.ensures) c.if-not-all_started.false-raw) refl)

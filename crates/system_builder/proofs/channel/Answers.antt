@@ -16,8 +16,8 @@ pub returns-in-Refused : goal.returns-in-Refused
 unfolding channel_in
 returns-in-Refused c =
     let l = c.before in
-    let k = l.before.before in
-    rw (sym k.read_check-check.ensures ∙ l.check-1.given.1, c.none.ensures)
+    let k = c.before.before in
+    rw (sym k.read_check-check.ensures ∙ l.in-Refused.is, c.none.ensures)
 
 pub kinds_at-kinds-requires : goal.kinds_at-kinds-requires
 kinds_at-kinds-requires c = let r = read_ready _ _ (accepted (goal.at.kinds_at-kinds-requires c).In_default) in (r.words, r.channel)

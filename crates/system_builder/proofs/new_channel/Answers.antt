@@ -17,29 +17,29 @@ pub returns-in-Refused : goal.returns-in-Refused
 unfolding new_channel_of
 returns-in-Refused c =
     let l = c in
-    let k = l.before.before in
-    parts (placed_refused k.args.t.now _ _ (sym k.channel_check-check.ensures ∙ l.check-1.given.1))
+    let k = c.before in
+    parts (placed_refused k.args.t.now _ _ (sym k.channel_check-check.ensures ∙ l.in-Refused.is))
 
 pub channel_count-q-requires : goal.channel_count-q-requires
 channel_count-q-requires c =
     let e = c in
-    let k = e.before.before in
+    let k = c.before.before in
     let r = channel_ready _ _ _ (sym c.channel_check-check.ensures ∙ c.in_default.is) in
     words_of _ true r.formed
 
 pub put_channel-requires : goal.put_channel-requires
 put_channel-requires c =
     let n = c.before in
-    let e = n.before in
-    let k = e.before.before in
+    let e = c.before.before in
+    let k = c.before.before.before.before in
     let r = channel_ready _ _ _ (sym c.channel_check-check.ensures ∙ c.in_default.is) in
     (words_of _ true r.formed, omega (arith, n.channel_count-q.ensures, r.more), r.few)
 
 pub overflow_add-q : goal.overflow_add-q
 overflow_add-q c =
     let n = c.before.before.before.before.before in
-    let e = n.before in
-    let k = e.before.before in
+    let e = c.before.before.before.before.before.before in
+    let k = c.before.before.before.before.before.before.before.before in
     let r = channel_ready _ _ _ (sym c.channel_check-check.ensures ∙ c.in_default.is) in
     let small : n.channel_count-q.result < channel_room = omega (arith, n.channel_count-q.ensures, r.more) in
     search (rules, small)
@@ -47,16 +47,16 @@ overflow_add-q c =
 pub set_channel_count-requires : goal.set_channel_count-requires
 set_channel_count-requires c =
     let n = c.before.before.before.before.before in
-    let e = n.before in
-    let k = e.before.before in
+    let e = c.before.before.before.before.before.before in
+    let k = c.before.before.before.before.before.before.before.before in
     let r = channel_ready _ _ _ (sym c.channel_check-check.ensures ∙ c.in_default.is) in
     omega (arith, words_of _ true r.formed)
 
 pub overflow_cast-result : goal.overflow_cast-result
 overflow_cast-result c =
     let n = c.before.before.before.before.before.before.before.before in
-    let e = n.before in
-    let k = e.before.before in
+    let e = c.before.before.before.before.before.before.before.before.before in
+    let k = c.before.before.before.before.before.before.before.before.before.before.before in
     let r = channel_ready _ _ _ (sym c.channel_check-check.ensures ∙ c.in_default.is) in
     let small : n.channel_count-q.result < word32 = omega (arith, n.channel_count-q.ensures, r.more) in
     search (rules, small)
@@ -65,10 +65,10 @@ pub returns : goal.returns
 unfolding new_channel_of
 returns c =
     let n2 = c.before.before in
-    let p = n2.before.before.before.before in
-    let n = p.before.before in
-    let e = n.before in
-    let k = e.before.before in
+    let p = c.before.before.before.before.before.before in
+    let n = c.before.before.before.before.before.before.before.before in
+    let e = c.before.before.before.before.before.before.before.before.before in
+    let k = c.before.before.before.before.before.before.before.before.before.before.before in
     let a = k.args in
     let t = a.t.now in
     parts (placed_accepted t (sym c.channel_check-check.ensures ∙ c.in_default.is) n.channel_count-q.ensures

@@ -17,29 +17,29 @@ pub returns-in-Refused : goal.returns-in-Refused
 unfolding new_graph_of
 returns-in-Refused c =
     let l = c in
-    let k = l.before.before in
-    parts (placed_refused k.args.t.now _ _ (sym k.graph_check-check.ensures ∙ l.check-1.given.1))
+    let k = c.before in
+    parts (placed_refused k.args.t.now _ _ (sym k.graph_check-check.ensures ∙ l.in-Refused.is))
 
 pub graph_count-g-requires : goal.graph_count-g-requires
 graph_count-g-requires c =
     let e = c in
-    let k = e.before.before in
+    let k = c.before.before in
     let r = graph_ready _ (sym c.graph_check-check.ensures ∙ c.in_default.is) in
     words_of _ true r.0
 
 pub clear_graph-requires : goal.clear_graph-requires
 clear_graph-requires c =
     let n = c.before in
-    let e = n.before in
-    let k = e.before.before in
+    let e = c.before.before in
+    let k = c.before.before.before.before in
     let r = graph_ready _ (sym c.graph_check-check.ensures ∙ c.in_default.is) in
     (words_of _ true r.0, omega (arith, n.graph_count-g.ensures, r.1))
 
 pub overflow_add-g : goal.overflow_add-g
 overflow_add-g c =
     let n = c.before.before.before.before.before in
-    let e = n.before in
-    let k = e.before.before in
+    let e = c.before.before.before.before.before.before in
+    let k = c.before.before.before.before.before.before.before.before in
     let r = graph_ready _ (sym c.graph_check-check.ensures ∙ c.in_default.is) in
     let small : n.graph_count-g.result < graph_room = omega (arith, n.graph_count-g.ensures, r.1) in
     search (rules, small)
@@ -47,16 +47,16 @@ overflow_add-g c =
 pub set_graph_count-requires : goal.set_graph_count-requires
 set_graph_count-requires c =
     let n = c.before.before.before.before.before in
-    let e = n.before in
-    let k = e.before.before in
+    let e = c.before.before.before.before.before.before in
+    let k = c.before.before.before.before.before.before.before.before in
     let r = graph_ready _ (sym c.graph_check-check.ensures ∙ c.in_default.is) in
     omega (arith, words_of _ true r.0)
 
 pub overflow_cast-result : goal.overflow_cast-result
 overflow_cast-result c =
     let n = c.before.before.before.before.before.before.before.before in
-    let e = n.before in
-    let k = e.before.before in
+    let e = c.before.before.before.before.before.before.before.before.before in
+    let k = c.before.before.before.before.before.before.before.before.before.before.before in
     let r = graph_ready _ (sym c.graph_check-check.ensures ∙ c.in_default.is) in
     let small : n.graph_count-g.result < word32 = omega (arith, n.graph_count-g.ensures, r.1) in
     search (rules, small)
@@ -65,10 +65,10 @@ pub returns : goal.returns
 unfolding new_graph_of
 returns c =
     let n2 = c.before.before in
-    let p = n2.before.before.before.before in
-    let n = p.before.before in
-    let e = n.before in
-    let k = e.before.before in
+    let p = c.before.before.before.before.before.before in
+    let n = c.before.before.before.before.before.before.before.before in
+    let e = c.before.before.before.before.before.before.before.before.before in
+    let k = c.before.before.before.before.before.before.before.before.before.before.before in
     let a = k.args in
     let t = a.t.now in
     parts (placed_accepted t (sym c.graph_check-check.ensures ∙ c.in_default.is) n.graph_count-g.ensures

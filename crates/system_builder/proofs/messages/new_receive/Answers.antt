@@ -23,8 +23,8 @@ pub returns-in-Refused : goal.returns-in-Refused
 unfolding new_receive_on
 returns-in-Refused c =
     let l = c in
-    let k = l.before.before in
-    parts (only_refused Placed.Refused k.args.t.now _ (sym k.receive_check-check.ensures ∙ l.check-1.given.1))
+    let k = c.before in
+    parts (only_refused Placed.Refused k.args.t.now _ (sym k.receive_check-check.ensures ∙ l.in-Refused.is))
 
 pub receive_on-placed-requires : goal.receive_on-placed-requires
 receive_on-placed-requires c = let f = known_both _ _ _ (known (goal.at.receive_on-placed-requires c).In_default) in (f.words, f.graph)
@@ -32,7 +32,7 @@ receive_on-placed-requires c = let f = known_both _ _ _ (known (goal.at.receive_
 pub tell-requires : goal.tell-requires
 tell-requires c =
     let p = c.before.before.before.before in
-    let e = p.before.before.before in
+    let e = c.before.before.before.before.before.before.before in
     let a = e.args in
     λ n h.
     let w = has_word (λ (G : List ℕ). new_receive_of G a.vars) (receive_puts _) a.t.now a.g.0 (known_member _ _ _ (known (goal.at.tell-requires c).In_default)) n (sym p.receive_on-placed.ensures.0 ∙ h) in
@@ -42,9 +42,9 @@ pub returns : goal.returns
 unfolding new_receive_on
 returns c =
     let d = c.before.before in
-    let p = d.before.before.before.before.before in
-    let e = p.before.before.before in
-    let k = e.before in
+    let p = c.before.before.before.before.before.before.before in
+    let e = c.before.before.before.before.before.before.before.before.before.before in
+    let k = c.before.before.before.before.before.before.before.before.before.before.before in
     let a = k.args in
     parts
     (only_accepted Placed.Refused a.t.now (sym k.receive_check-check.ensures ∙ e.in_default.is)

@@ -19,7 +19,7 @@ tell-requires c =
 pub returns : goal.returns
 returns c =
     let d = c.before.before in
-    let p = d.before.before.before.before.before in
+    let p = c.before.before.before.before.before.before.before in
     let a = p.args in
     parts
     (telling_of a.g.0 Plain (placed_on new_action_of a.t.now a.g.0) _ _ _ p.plain_action-placed.ensures.0 p.plain_action-placed.ensures.1

@@ -18,15 +18,15 @@ known e = let k = e.before in known_graph _ _ (sym k.member_check-check.ensures 
 pub returns-in-Refused : goal.returns-in-Refused
 returns-in-Refused c =
     let l = c in
-    let k = l.before.before in
-    parts (only_refused Done.Refused k.args.t.now _ (sym k.member_check-check.ensures ∙ l.check-1.given.1))
+    let k = c.before in
+    parts (only_refused Done.Refused k.args.t.now _ (sym k.member_check-check.ensures ∙ l.in-Refused.is))
 
 pub returns : goal.returns
 returns c =
     let p = c.before.before in
-    let s = p.before.before in
-    let e = s.before.before in
-    let k = e.before in
+    let s = c.before.before.before.before in
+    let e = c.before.before.before.before.before.before in
+    let k = c.before.before.before.before.before.before.before in
     let a = k.args in
     parts
     (only_accepted Done.Refused a.t.now (sym k.member_check-check.ensures ∙ e.in_default.is)

@@ -2,7 +2,6 @@ use borrow.Author.Tests.{eq-eqb, ne_eqb}
 use mathlib.Core.Path.{sym, ◌∙◌}
 use native.Mathlib.Omega.{arith}
 use Rattle.run_steps.specs.Steps.{guard_holds}
-use borrow.Author.Rules.{rules}
 use Rattle.run_steps.proofs.inner.candidates.guard_holds.Goals as goal
 
 pub returns-then-guard_length-eq0 : goal.returns-then-guard_length-eq0

@@ -2,7 +2,6 @@ use mathlib.Core.Path.{◌≡◌, sym, ap, ◌∙◌}
 use Rattle.grammar.specs.declared.evaluation.Evaluated.{Evaluated}
 use Rattle.grammar.specs.declared.evaluation.Evaluation.{Evaluation}
 use Rattle.run_steps.specs.Steps.{is_true, satisfied}
-use borrow.Author.Rules.{rules}
 use Rattle.run_steps.proofs.inner.candidates.is_satisfied.Goals as goal
 
 -- r is what the call gave, e what its contract says, a the answer that the code found in r
@@ -14,10 +13,8 @@ returns-in_default c = told c.in_default.is c.evaluate_on-evaluation.ensures
 
 pub returns-in_default-value : goal.returns-in_default-value
 returns-in_default-value c =
-    let a = c.before in
-    ap is_true (sym c.in_default-value.is) ∙ told a.answer-1.given.1 a.evaluate_on-evaluation.ensures
+    ap is_true (sym c.in_default-value.is) ∙ told c.in-Known.is c.evaluate_on-evaluation.ensures
 
 pub returns : goal.returns
 returns c =
-    let a = c.before in
-    ap is_true (sym c.in-Boolean.is) ∙ told a.answer-1.given.1 a.evaluate_on-evaluation.ensures
+    ap is_true (sym c.in-Boolean.is) ∙ told c.in-Known.is c.evaluate_on-evaluation.ensures

@@ -1,5 +1,4 @@
 use mathlib.Core.Path.{sym, ◌∙◌}
-use borrow.Author.Rules.{rules}
 use Rattle.run_steps.proofs.KeyLaws.{other_key, same_key}
 use Rattle.run_steps.proofs.inner.candidates.leads.Goals as goal
 

@@ -1,4 +1,3 @@
-use borrow.Author.Rules.{rules}
 use Rattle.run_steps.proofs.FailingLaws.{passes_none}
 use Rattle.run_steps.proofs.inner.candidates.passes.Goals as goal
 

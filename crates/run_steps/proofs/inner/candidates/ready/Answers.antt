@@ -1,13 +1,8 @@
-use Prim.Native.Nat.{◌≤◌, ◌<◌, ◌-◌}
-use mathlib.Core.Path.{◌≡◌, refl, sym, ◌∙◌}
-use mathlib.Core.Bool.{true, false}
+use mathlib.Core.Path.{refl, sym, ◌∙◌}
 use native.Mathlib.Omega.{arith}
-use lib.ListN.{length, get_or}
 use borrow.Author.Rules.{rules}
-use Rattle.laws.specs.Below.{all_below, any_below}
 use Rattle.laws.proofs.BelowLaws.{all_none, all_more, all_fails, all_done}
-use Rattle.grammar.specs.Slots.{slots_of}
-use Rattle.run_steps.specs.Steps.{leads_of, process_ready, ready_of}
+use Rattle.run_steps.specs.Steps.{process_ready, ready_of}
 use Rattle.run_steps.proofs.AnyLaws.{any_none, any_more, any_found, any_done}
 use Rattle.run_steps.proofs.KeyLaws.{asked_leads, no_way}
 use Rattle.run_steps.proofs.inner.candidates.ready.Goals as goal
@@ -17,9 +12,8 @@ processes-init c = (search rules, refl, all_none _)
 
 pub key_with-key-requires : goal.key_with-key-requires
 key_with-key-requires c =
-    let s = c.before.before.before.before.before.before.before.before.before.before.before.before in
     let p = c.processes.p in
-    (omega (arith, s.requires.4 p (omega arith), s.requires.0.counts.locations), omega arith)
+    (omega (arith, c.requires.4 p (omega arith), c.requires.0.counts.locations), omega arith)
 
 pub loop-k-init : goal.loop-k-init
 loop-k-init c = (refl, search rules, any_none _)
@@ -27,27 +21,25 @@ loop-k-init c = (refl, search rules, any_none _)
 pub leads-requires : goal.leads-requires
 leads-requires c =
     let s = c.before.before.before.before.before.before.before.before.before.before.before.before.before.before.before in (
-      s.requires.0,
+      c.requires.0,
       omega (arith, c.transition_count-count.ensures),
-      s.requires.1,
-      s.requires.2,
-      s.requires.3,
+      c.requires.1,
+      c.requires.2,
+      c.requires.3,
     )
 
 pub processes-preserved : goal.processes-preserved
 unfolding process_ready
 processes-preserved c =
-    let l = c.before.before.before in
-    let p = l.processes in
-    let led = asked_leads _ _ _ _ _ _ _ _ _ l.key_with-key.ensures (omega arith) (omega arith) c.leads.ensures in
-    rw l.loop-k.invariant.0
-    (omega arith, p.invariant.1, all_more _ _ p.invariant.2 (any_found _ _ l.loop-k.k (omega arith) (sym led ∙ c.if-leads.true)))
+    let p = c.processes in
+    let led = asked_leads _ _ _ _ _ _ _ _ _ c.key_with-key.ensures (omega arith) (omega arith) c.leads.ensures in
+    rw c.loop-k.invariant.0
+    (omega arith, p.invariant.1, all_more _ _ p.invariant.2 (any_found _ _ c.loop-k.k (omega arith) (sym led ∙ c.if-leads.true)))
 
 pub loop-k-preserved : goal.loop-k-preserved
 loop-k-preserved c =
-    let l = c.before.before.before in
-    let led = asked_leads _ _ _ _ _ _ _ _ _ l.key_with-key.ensures (omega arith) (omega arith) c.leads.ensures in
-    (l.loop-k.invariant.0, omega arith, any_more _ _ l.loop-k.invariant.2 (sym led ∙ c.if-leads.false))
+    let led = asked_leads _ _ _ _ _ _ _ _ _ c.key_with-key.ensures (omega arith) (omega arith) c.leads.ensures in
+    (c.loop-k.invariant.0, omega arith, any_more _ _ c.loop-k.invariant.2 (sym led ∙ c.if-leads.false))
 
 pub returns-then-post-ge-LOCATIONS : goal.returns-then-post-ge-LOCATIONS
 unfolding ready_of process_ready
@@ -61,6 +53,5 @@ returns-after-processes c = let p = c.processes in p.invariant.1 ∙ sym (all_do
 pub returns-after-loop-k : goal.returns-after-loop-k
 unfolding ready_of process_ready
 returns-after-loop-k c =
-    let l = c.before in
-    sym (all_fails _ _ l.processes.p (omega arith)
-    (any_done _ _ l.loop-k.k (omega arith) (omega arith) l.loop-k.invariant.2))
+    sym (all_fails _ _ c.processes.p (omega arith)
+    (any_done _ _ c.loop-k.k (omega arith) (omega arith) c.loop-k.invariant.2))

@@ -1,9 +1,8 @@
-use Prim.Native.Nat.{◌-◌, ◌≤◌}
-use mathlib.Core.Path.{◌≡◌, refl, sym, ap, ◌∙◌}
+use mathlib.Core.Path.{refl}
 use native.Mathlib.Omega.{arith}
-use lib.ListN.{length, get_or, set, length-set}
+use lib.ListN.{length-set}
 use borrow.Author.Rules.{rules}
-use Rattle.laws.proofs.Copies.{Filled, filled_none, filled_more, filled_all}
+use Rattle.laws.proofs.Copies.{filled_none, filled_more, filled_all}
 use Rattle.run_steps.proofs.inner.copies.copy.Goals as goal
 
 pub loop-i-init : goal.loop-i-init

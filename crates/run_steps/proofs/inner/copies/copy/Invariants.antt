@@ -1,9 +1,7 @@
 use Prim.Native.Nat.{◌-◌, ◌≤◌}
-use mathlib.Core.Path.{◌≡◌, refl, sym, ap, ◌∙◌}
-use native.Mathlib.Omega.{arith}
-use lib.ListN.{length, get_or, set, length-set}
-use borrow.Author.Rules.{rules}
-use Rattle.laws.proofs.Copies.{Filled, filled_none, filled_more, filled_all}
+use mathlib.Core.Path.{◌≡◌}
+use lib.ListN.{length}
+use Rattle.laws.proofs.Copies.{Filled}
 use Rattle.run_steps.proofs.inner.copies.copy.Given as goal
 
 abbrev pub invariant-loop-i : goal.invariant-loop-i

@@ -1,5 +1,4 @@
-use borrow.Author.Rules.{rules}
-use borrow.Author.Tests.{lt-ltb, le-ltb, eq-eqb, ne_eqb}
+use borrow.Author.Tests.{lt-ltb, le-ltb}
 use Rattle.laws.proofs.BelowLaws.{and_yes, and_no}
 use Rattle.run_steps.proofs.inner.effects.is_kind.Goals as goal
 

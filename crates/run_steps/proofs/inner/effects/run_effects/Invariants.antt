@@ -1,17 +1,10 @@
-use Prim.Native.Nat.{ℕ, ◌+◌, ◌-◌, ◌≤◌, ◌<◌}
-use mathlib.Core.Path.{◌≡◌, refl, sym, ap, subst, ◌∙◌}
+use Prim.Native.Nat.{◌-◌, ◌≤◌}
+use mathlib.Core.Path.{◌≡◌}
 use mathlib.Core.Bool.{true}
-use mathlib.Core.List.{List}
-use native.Mathlib.Omega.{arith}
-use borrow.Author.Rules.{rules}
 use Rattle.grammar.specs.Slots.{slots_of}
-use Rattle.grammar.specs.declared.values.Slot.{Slot}
-use Rattle.grammar.specs.declared.evaluation.Evaluated.{Evaluated}
-use Rattle.graph_tables.specs.Words.{variable_count, effect_count, effect_var}
-use Rattle.run_steps.specs.Steps.{Effected, assigned, unchanged, effects_below}
+use Rattle.graph_tables.specs.Words.{variable_count}
+use Rattle.run_steps.specs.Steps.{unchanged, effects_below}
 use Rattle.run_steps.specs.Inner.{VarsLeft}
-use Rattle.run_steps.proofs.StepLaws.{evaluated_anew, effects_turn, effects_stop}
-use Rattle.run_steps.proofs.VarLaws.{vars_same, vars_more}
 use Rattle.run_steps.proofs.inner.effects.run_effects.Given as goal
 
 abbrev pub invariant-loop-e : goal.invariant-loop-e

@@ -1,14 +1,8 @@
 use Prim.Native.Nat.{◌-◌, ◌≤◌}
-use mathlib.Core.Path.{◌≡◌, sym}
+use mathlib.Core.Path.{◌≡◌}
 use mathlib.Core.Bool.{true}
-use native.Mathlib.Omega.{arith}
-use borrow.Author.Rules.{rules}
 use Rattle.laws.specs.Below.{all_below}
-use Rattle.laws.proofs.BelowLaws.{all_none, all_more, all_done}
-use Rattle.laws.proofs.Tests.{held, failed}
 use Rattle.run_steps.specs.Steps.{limit_holds}
-use Rattle.run_steps.proofs.LimitLaws.{limit_known_lem}
-use Rattle.run_steps.proofs.LowestLaws.{lowest_none, lowest_at}
 use Rattle.run_steps.proofs.inner.limits.first_unmet.Given as goal
 
 abbrev pub invariant-loop-i : goal.invariant-loop-i

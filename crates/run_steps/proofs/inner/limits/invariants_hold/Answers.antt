@@ -1,5 +1,4 @@
 use mathlib.Core.Path.{◌∙◌}
-use borrow.Author.Rules.{rules}
 use Rattle.run_steps.specs.Steps.{invariants_hold}
 use Rattle.run_steps.proofs.LimitLaws.{invariants_of_location}
 use Rattle.run_steps.proofs.inner.limits.invariants_hold.Goals as goal

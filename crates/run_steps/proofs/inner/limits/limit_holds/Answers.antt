@@ -1,6 +1,4 @@
-use mathlib.Core.Path.{◌≡◌, sym, ◌∙◌}
 use native.Mathlib.Omega.{arith}
-use borrow.Author.Rules.{rules}
 use Rattle.laws.proofs.Tests.{held, failed, both_yes, both_no}
 use Rattle.run_steps.specs.Steps.{limit_holds}
 use Rattle.run_steps.proofs.inner.limits.limit_holds.Goals as goal

@@ -1,6 +1,5 @@
-use mathlib.Core.Path.{◌≡◌, sym, ◌∙◌}
+use mathlib.Core.Path.{◌∙◌}
 use native.Mathlib.Omega.{arith}
-use borrow.Author.Rules.{rules}
 use Rattle.laws.proofs.Tests.{held, failed, both_yes, both_no}
 use Rattle.graph_tables.specs.Words.{clock_count}
 use Rattle.run_steps.proofs.LaterLaws.{read_fits, limit_later}

@@ -1,4 +1,3 @@
-use borrow.Author.Rules.{rules}
 use Rattle.run_steps.specs.Steps.{limits_hold}
 use Rattle.run_steps.proofs.LowestLaws.{lowest_tells}
 use Rattle.run_steps.proofs.inner.limits.limits_hold.Goals as goal

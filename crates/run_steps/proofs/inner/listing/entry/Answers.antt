@@ -1,5 +1,4 @@
 use native.Mathlib.Omega.{arith}
-use borrow.Author.Rules.{rules}
 use Rattle.run_steps.proofs.inner.listing.entry.Goals as goal
 
 pub returns : goal.returns

@@ -1,6 +1,5 @@
 use mathlib.Core.Path.{sym, ◌∙◌}
 use native.Mathlib.Omega.{arith}
-use borrow.Author.Rules.{rules}
 use Rattle.run_steps.proofs.ListingLaws.{clocks_by_unknown, clocks_by_known}
 use Rattle.run_steps.proofs.inner.listing.reset_by.Goals as goal
 

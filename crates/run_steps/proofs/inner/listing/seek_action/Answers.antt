@@ -1,8 +1,7 @@
 use Prim.Native.Nat.{ℕ}
-use mathlib.Core.Path.{◌≡◌, sym, ap, ◌∙◌}
+use mathlib.Core.Path.{sym, ap, ◌∙◌}
 use mathlib.Core.List.{List}
 use lib.ListN.{length}
-use borrow.Author.Rules.{rules}
 use Rattle.laws.proofs.Tests.{held, failed}
 use Rattle.run_steps.specs.Listing.{clocks_by, shared_entries}
 use Rattle.run_steps.proofs.ListingLaws.{clocks_by_length}

@@ -1,13 +1,9 @@
 use Prim.Native.Nat.{◌≤◌, ◌-◌}
 use mathlib.Core.Path.{◌≡◌}
-use native.Mathlib.Omega.{arith}
 use lib.ListN.{length}
-use borrow.Author.Rules.{rules}
 use Rattle.grammar.specs.Slots.{slots_of}
-use Rattle.graph_tables.specs.Words.{action_count, epsilon}
 use Rattle.run_steps.specs.Listing.{seek, join_below, shared_entries}
 use Rattle.run_steps.specs.declared.inner.listing.Sought.TheVariants.{Left}
-use Rattle.run_steps.proofs.ListingLaws.{first_found, first_passed, join_none, join_more, join_found, join_done}
 use Rattle.run_steps.proofs.inner.listing.seek_entry.Given as goal
 
 abbrev pub invariant-loop-a : goal.invariant-loop-a

@@ -1,17 +1,11 @@
-use Prim.Native.Nat.{ℕ, ◌-◌, ◌≤◌}
-use mathlib.Core.Path.{◌≡◌, refl, sym, ap, ◌∙◌}
-use mathlib.Core.List.{[], ◌∷◌}
-use mathlib.Core.Bool.{cond}
-use mathlib.Core.Logic.{⊎_elim}
+use mathlib.Core.Path.{refl, sym, ap, ◌∙◌}
 use native.Mathlib.Omega.{arith}
 use borrow.Author.Rules.{rules}
-use Rattle.grammar.specs.Slots.{slots_of}
-use Rattle.graph_tables.specs.Words.{pre_of, action_of}
-use Rattle.run_steps.specs.Listing.{seek, join_below, opens_by, entry_of}
 use Rattle.run_steps.specs.declared.inner.listing.Sought.TheVariants.{Found, Left}
 use Rattle.run_steps.proofs.ListingLaws.{join_none, join_more, join_found, join_done, one_found, one_passed, none_passed}
 use Rattle.run_steps.proofs.ListingLaws.{opens_entry}
 use Rattle.run_steps.proofs.inner.listing.seek_process.Goals as goal
+use Rattle.run_steps.proofs.inner.listing.seek_process.Goals.{then-opens_by+else-left-eq0, else-opens_by}
 
 pub loop-k-init : goal.loop-k-init
 loop-k-init c = (search rules, join_none _ _)
@@ -28,14 +22,13 @@ returns-then-left-eq0 c =
 
 pub loop-k-preserved : goal.loop-k-preserved
 loop-k-preserved c =
-    let l = c.before.before.before in
     let opens = sym c.opens_by.ensures in
-    let more = join_more _ _ l.loop-k.k l.loop-k.invariant.1 in (
+    let more = join_more _ _ c.loop-k.k c.loop-k.invariant.1 in (
       omega arith,
-      ⊎_elim
-          (λ w. more (ap Left w.2 ∙ one_passed _ _ (opens ∙ w.0.taken) w.1.left) refl)
-          (λ w. more (ap Left w.1 ∙ none_passed _ _ (opens ∙ w.0.left)) refl)
-          c.if-opens_by.branch,
+      elim c.if-opens_by.branch [
+        | then-opens_by+else-left-eq0 w ↦ more (ap Left w.left-is ∙ one_passed _ _ (opens ∙ w.if-opens_by.true) w.if-left-eq0.false) refl
+        | else-opens_by w ↦ more (ap Left w.left-is ∙ none_passed _ _ (opens ∙ w.if-opens_by.false)) refl
+      ],
     )
 
 pub returns : goal.returns

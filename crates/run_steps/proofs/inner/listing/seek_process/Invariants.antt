@@ -1,16 +1,11 @@
 use Prim.Native.Nat.{ℕ, ◌-◌, ◌≤◌}
-use mathlib.Core.Path.{◌≡◌, refl, sym, ap, ◌∙◌}
+use mathlib.Core.Path.{◌≡◌}
 use mathlib.Core.List.{[], ◌∷◌}
 use mathlib.Core.Bool.{cond}
-use mathlib.Core.Logic.{⊎_elim}
-use native.Mathlib.Omega.{arith}
-use borrow.Author.Rules.{rules}
 use Rattle.grammar.specs.Slots.{slots_of}
 use Rattle.graph_tables.specs.Words.{pre_of, action_of}
 use Rattle.run_steps.specs.Listing.{seek, join_below, opens_by, entry_of}
-use Rattle.run_steps.specs.declared.inner.listing.Sought.TheVariants.{Found, Left}
-use Rattle.run_steps.proofs.ListingLaws.{join_none, join_more, join_found, join_done, one_found, one_passed, none_passed}
-use Rattle.run_steps.proofs.ListingLaws.{opens_entry}
+use Rattle.run_steps.specs.declared.inner.listing.Sought.TheVariants.{Left}
 use Rattle.run_steps.proofs.inner.listing.seek_process.Given as goal
 
 abbrev pub invariant-loop-k : goal.invariant-loop-k

@@ -1,13 +1,9 @@
 use Prim.Native.Nat.{ℕ, ◌-◌, ◌≤◌}
-use mathlib.Core.Path.{◌≡◌, sym, ap, ◌∙◌}
-use native.Mathlib.Omega.{arith}
+use mathlib.Core.Path.{◌≡◌}
 use lib.ListN.{get_or}
-use borrow.Author.Rules.{rules}
 use Rattle.grammar.specs.Slots.{slots_of}
-use Rattle.run_steps.specs.Listing.{seek, join_below, clocks_by, process_entries}
+use Rattle.run_steps.specs.Listing.{seek, join_below, process_entries}
 use Rattle.run_steps.specs.declared.inner.listing.Sought.TheVariants.{Left}
-use Rattle.run_steps.proofs.KeyLaws.{asked}
-use Rattle.run_steps.proofs.ListingLaws.{join_none, join_more, join_found, join_done, process_sought}
 use Rattle.run_steps.proofs.inner.listing.seek_processes.Given as goal
 
 abbrev pub invariant-loop-p : goal.invariant-loop-p

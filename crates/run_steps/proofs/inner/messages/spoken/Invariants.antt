@@ -1,18 +1,11 @@
-use Prim.Native.Nat.{ℕ, ◌+◌, ◌-◌, ◌≤◌, ◌<◌}
-use mathlib.Core.Path.{◌≡◌, refl, sym, ap, ◌∙◌}
+use Prim.Native.Nat.{ℕ, ◌-◌, ◌≤◌}
+use mathlib.Core.Path.{◌≡◌}
 use mathlib.Core.Bool.{true}
 use mathlib.Core.List.{List}
-use native.Mathlib.Omega.{arith}
-use borrow.Author.Rules.{rules}
 use Rattle.grammar.specs.Slots.{slots_of}
 use Rattle.grammar.specs.declared.values.Slot.{Slot}
-use Rattle.grammar.specs.declared.evaluation.Evaluated.{Evaluated}
-use Rattle.graph_tables.specs.Words.{effect_count}
-use Rattle.graph_tables.specs.declared.handed.Message.{Message}
-use Rattle.run_steps.specs.Messages.{no_message, voiced, spoken_below, spoken_of}
+use Rattle.run_steps.specs.Messages.{spoken_below}
 use Rattle.run_steps.specs.declared.inner.messages.Speech.{Speech}
-use Rattle.run_steps.proofs.StepLaws.{evaluated_anew}
-use Rattle.run_steps.proofs.MessageLaws.{spoken_turn, spoken_stop}
 use Rattle.run_steps.proofs.inner.messages.spoken.Given as goal
 
 abbrev pub saying : List Slot → ℕ → Speech

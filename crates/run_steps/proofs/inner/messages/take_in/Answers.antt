@@ -1,14 +1,15 @@
-use Prim.Native.Nat.{ℕ, ◌+◌, ◌-◌, ◌*◌, ◌≤◌, ◌<◌}
-use mathlib.Core.Path.{◌≡◌, refl, sym, ap, ◌∙◌}
+use Prim.Native.Nat.{ℕ, ◌+◌, ◌<◌}
+use mathlib.Core.Path.{◌≡◌, refl, ◌∙◌}
 use native.Mathlib.Omega.{arith}
 use native.Mathlib.Numerals.{add-one}
-use lib.ListN.{length, set, length-set}
+use lib.ListN.{set, get_or, length-set}
 use borrow.Author.Rules.{rules}
-use Rattle.grammar.specs.Slots.{slots_of}
-use Rattle.graph_tables.specs.Words.{variable_count, effect_count}
+use mathlib.Core.List.{List}
+use Rattle.grammar.specs.Evaluation.{blank}
+use Rattle.grammar.specs.declared.values.Slot.{Slot}
+use Rattle.graph_tables.specs.Words.{variable_count, effect_count, effect_var}
 use Rattle.graph_tables.specs.declared.handed.Message.{Message}
 use Rattle.run_steps.specs.Messages.{taken_below}
-use Rattle.run_steps.specs.Inner.{VarsLeft}
 use Rattle.run_steps.proofs.VarLaws.{vars_same, vars_more}
 use Rattle.run_steps.proofs.inner.messages.take_in.Goals as goal
 use Rattle.run_steps.proofs.inner.messages.take_in.Goals.{After-effect_var}
@@ -47,8 +48,13 @@ put-requires c =
     let s = c.before.before.before.before.before.before.before.before.before in
     omega (arith, known (goal.at.put-requires c).After-effect_var, s.requires.0.counts.variables, c.loop-e.invariant.1, s.requires.3)
 
-pub loop-e-preserved : goal.loop-e-preserved
+-- one more value, where v is the variable that takes it and ws are the message's values
+taken_more : (t : List ℕ) (a : ℕ) (m : Message) (vars : List Slot) (n : ℕ) {v : ℕ} {ws : List Slot} → v ≡ effect_var t a n → ws ≡ m.values →
+    taken_below t a m vars (n + 1) ≡ set (taken_below t a m vars n) v (record { value = (get_or ws n blank).value })
 unfolding taken_below
+taken_more t a m vars n e h = rw (add-one, e, h) refl
+
+pub loop-e-preserved : goal.loop-e-preserved
 loop-e-preserved c =
     let p = c.before.before in
     let v = p.before in
@@ -59,7 +65,7 @@ loop-e-preserved c =
       λ m h.
           vars_more l.vars (variable_count o.args.t.now) v.effect_var.result _ (l.invariant.1 ∙ o.requires.3) (known (goal.at.loop-e-preserved c).After-effect_var)
           o.requires.0.counts.variables p.put.ensures.1 (l.invariant.2 m h) p.put.ensures.0
-          (rw (add-one, ← v.effect_var.ensures, ← h)),
+          (taken_more o.args.t.now o.args.a m _ l.e v.effect_var.ensures h),
     )
 
 pub returns : goal.returns

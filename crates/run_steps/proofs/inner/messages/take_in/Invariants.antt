@@ -1,15 +1,11 @@
-use Prim.Native.Nat.{ℕ, ◌+◌, ◌-◌, ◌*◌, ◌≤◌, ◌<◌}
-use mathlib.Core.Path.{◌≡◌, refl, sym, ap, ◌∙◌}
-use native.Mathlib.Omega.{arith}
-use native.Mathlib.Numerals.{add-one}
-use lib.ListN.{length, set, length-set}
-use borrow.Author.Rules.{rules}
+use Prim.Native.Nat.{◌-◌, ◌≤◌}
+use mathlib.Core.Path.{◌≡◌}
+use lib.ListN.{length}
 use Rattle.grammar.specs.Slots.{slots_of}
-use Rattle.graph_tables.specs.Words.{variable_count, effect_count}
+use Rattle.graph_tables.specs.Words.{variable_count}
 use Rattle.graph_tables.specs.declared.handed.Message.{Message}
 use Rattle.run_steps.specs.Messages.{taken_below}
 use Rattle.run_steps.specs.Inner.{VarsLeft}
-use Rattle.run_steps.proofs.VarLaws.{vars_same, vars_more}
 use Rattle.run_steps.proofs.inner.messages.take_in.Given as goal
 
 -- the loop sees the message's values alone

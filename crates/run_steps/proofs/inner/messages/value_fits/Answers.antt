@@ -1,5 +1,4 @@
 use native.Mathlib.Omega.{arith}
-use borrow.Author.Rules.{rules}
 use Rattle.run_steps.specs.Messages.{value_fits}
 use Rattle.run_steps.proofs.inner.messages.value_fits.Goals as goal
 

@@ -1,10 +1,6 @@
-use Prim.Native.Nat.{◌-◌, ◌≤◌}
-use mathlib.Core.Path.{◌≡◌, sym}
-use mathlib.Core.Bool.{false}
+use mathlib.Core.Path.{sym}
 use native.Mathlib.Omega.{arith}
 use borrow.Author.Rules.{rules}
-use Rattle.laws.specs.Below.{any_below}
-use Rattle.run_steps.specs.Waiting.{lower_unmet}
 use Rattle.run_steps.proofs.AnyLaws.{any_none, any_more, any_found, any_done}
 use Rattle.run_steps.proofs.LimitLaws.{limit_known_lem}
 use Rattle.run_steps.proofs.inner.waiting.any_unmet.Goals as goal

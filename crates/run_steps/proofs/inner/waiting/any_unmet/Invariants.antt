@@ -1,12 +1,8 @@
 use Prim.Native.Nat.{◌-◌, ◌≤◌}
-use mathlib.Core.Path.{◌≡◌, sym}
+use mathlib.Core.Path.{◌≡◌}
 use mathlib.Core.Bool.{false}
-use native.Mathlib.Omega.{arith}
-use borrow.Author.Rules.{rules}
 use Rattle.laws.specs.Below.{any_below}
 use Rattle.run_steps.specs.Waiting.{lower_unmet}
-use Rattle.run_steps.proofs.AnyLaws.{any_none, any_more, any_found, any_done}
-use Rattle.run_steps.proofs.LimitLaws.{limit_known_lem}
 use Rattle.run_steps.proofs.inner.waiting.any_unmet.Given as goal
 
 abbrev pub invariant-loop-i : goal.invariant-loop-i

@@ -1,10 +1,6 @@
-use Prim.Native.Nat.{◌-◌, ◌≤◌}
-use mathlib.Core.Path.{◌≡◌, sym, ◌∙◌}
-use mathlib.Core.Bool.{false}
+use mathlib.Core.Path.{sym, ◌∙◌}
 use native.Mathlib.Omega.{arith}
 use borrow.Author.Rules.{rules}
-use Rattle.laws.specs.Below.{any_below}
-use Rattle.run_steps.specs.Steps.{leaves_by}
 use Rattle.run_steps.proofs.AnyLaws.{any_none, any_more, any_found, any_done}
 use Rattle.run_steps.proofs.KeyLaws.{asked, leaves_parts}
 use Rattle.run_steps.proofs.inner.waiting.has_action.Goals as goal

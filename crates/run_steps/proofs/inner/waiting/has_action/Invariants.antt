@@ -1,12 +1,8 @@
 use Prim.Native.Nat.{◌-◌, ◌≤◌}
-use mathlib.Core.Path.{◌≡◌, sym, ◌∙◌}
+use mathlib.Core.Path.{◌≡◌}
 use mathlib.Core.Bool.{false}
-use native.Mathlib.Omega.{arith}
-use borrow.Author.Rules.{rules}
 use Rattle.laws.specs.Below.{any_below}
 use Rattle.run_steps.specs.Steps.{leaves_by}
-use Rattle.run_steps.proofs.AnyLaws.{any_none, any_more, any_found, any_done}
-use Rattle.run_steps.proofs.KeyLaws.{asked, leaves_parts}
 use Rattle.run_steps.proofs.inner.waiting.has_action.Given as goal
 
 abbrev pub invariant-loop-k : goal.invariant-loop-k

@@ -1,6 +1,5 @@
 use mathlib.Core.Path.{◌∙◌}
 use native.Mathlib.Omega.{arith}
-use borrow.Author.Rules.{rules}
 use Rattle.run_steps.specs.Waiting.{coming_of}
 use Rattle.run_steps.proofs.LimitLaws.{limits_of_transition, invariants_of_location}
 use Rattle.run_steps.proofs.inner.waiting.is_coming.Goals as goal

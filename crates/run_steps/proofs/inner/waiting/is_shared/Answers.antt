@@ -1,9 +1,6 @@
-use Prim.Native.Nat.{◌-◌, ◌≤◌}
-use mathlib.Core.Path.{◌≡◌, sym}
-use mathlib.Core.Bool.{true}
+use mathlib.Core.Path.{sym}
 use native.Mathlib.Omega.{arith}
 use borrow.Author.Rules.{rules}
-use Rattle.laws.specs.Below.{all_below}
 use Rattle.laws.proofs.BelowLaws.{all_none, all_more, all_fails, all_done}
 use Rattle.laws.proofs.Tests.{held, failed}
 use Rattle.run_steps.specs.Waiting.{place_has, shared_of}

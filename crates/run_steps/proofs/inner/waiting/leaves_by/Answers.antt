@@ -1,5 +1,4 @@
 use native.Mathlib.Omega.{arith}
-use borrow.Author.Rules.{rules}
 use Rattle.run_steps.proofs.KeyLaws.{leaves_first}
 use Rattle.run_steps.proofs.inner.waiting.leaves_by.Goals as goal
 

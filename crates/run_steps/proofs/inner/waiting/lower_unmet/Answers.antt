@@ -1,7 +1,4 @@
-use mathlib.Core.Path.{ap, ◌∙◌}
-use mathlib.Core.Bool.{not}
 use native.Mathlib.Omega.{arith}
-use borrow.Author.Rules.{rules}
 use Rattle.run_steps.specs.Waiting.{lower_unmet}
 use Rattle.run_steps.proofs.inner.waiting.lower_unmet.Goals as goal
 

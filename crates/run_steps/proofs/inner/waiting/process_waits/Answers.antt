@@ -1,11 +1,7 @@
-use Prim.Native.Nat.{◌-◌, ◌≤◌}
-use mathlib.Core.Path.{◌≡◌, sym}
-use mathlib.Core.Bool.{false}
+use mathlib.Core.Path.{sym}
 use native.Mathlib.Omega.{arith}
-use lib.ListN.{length}
 use borrow.Author.Rules.{rules}
-use Rattle.laws.specs.Below.{any_below}
-use Rattle.run_steps.specs.Waiting.{awaited_of, process_waits}
+use Rattle.run_steps.specs.Waiting.{process_waits}
 use Rattle.run_steps.proofs.AnyLaws.{any_none, any_more, any_found, any_done}
 use Rattle.run_steps.proofs.inner.waiting.process_waits.Goals as goal
 

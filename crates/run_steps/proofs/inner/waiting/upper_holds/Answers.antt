@@ -1,7 +1,4 @@
-use mathlib.Core.Path.{ap, ◌∙◌}
-use mathlib.Core.Bool.{not}
 use native.Mathlib.Omega.{arith}
-use borrow.Author.Rules.{rules}
 use Rattle.run_steps.specs.Waiting.{upper_holds}
 use Rattle.run_steps.proofs.inner.waiting.upper_holds.Goals as goal
 

@@ -1,12 +1,9 @@
 use Prim.Native.Nat.{◌-◌, ◌≤◌}
-use mathlib.Core.Path.{◌≡◌, sym}
+use mathlib.Core.Path.{◌≡◌}
 use mathlib.Core.Bool.{false}
-use native.Mathlib.Omega.{arith}
 use lib.ListN.{length}
-use borrow.Author.Rules.{rules}
 use Rattle.laws.specs.Below.{any_below}
-use Rattle.run_steps.specs.Waiting.{process_waits, waiting_of}
-use Rattle.run_steps.proofs.AnyLaws.{any_none, any_more, any_found, any_done}
+use Rattle.run_steps.specs.Waiting.{process_waits}
 use Rattle.run_steps.proofs.inner.waiting.waiting.Given as goal
 
 abbrev pub invariant-loop-p : goal.invariant-loop-p

@@ -1,11 +1,7 @@
-use Prim.Native.Nat.{◌≤◌, ◌-◌}
-use mathlib.Core.Path.{◌≡◌, sym, ◌∙◌}
-use mathlib.Core.Bool.{true}
+use mathlib.Core.Path.{sym, ◌∙◌}
 use native.Mathlib.Omega.{arith}
-use lib.ListN.{length}
 use borrow.Author.Rules.{rules}
 use borrow.Author.Tests.{not-true, not-false}
-use Rattle.laws.specs.Below.{all_below}
 use Rattle.laws.proofs.BelowLaws.{all_none, all_more, all_fails, all_done}
 use Rattle.run_steps.specs.Steps.{place_holds}
 use Rattle.run_steps.proofs.inner.waits.places_hold.Goals as goal

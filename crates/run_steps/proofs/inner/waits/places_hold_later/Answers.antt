@@ -1,14 +1,9 @@
-use Prim.Native.Nat.{◌≤◌, ◌-◌}
-use mathlib.Core.Path.{◌≡◌, sym, ◌∙◌}
-use mathlib.Core.Bool.{true}
+use mathlib.Core.Path.{sym, ◌∙◌}
 use native.Mathlib.Omega.{arith}
-use lib.ListN.{length}
 use borrow.Author.Rules.{rules}
 use borrow.Author.Tests.{not-true, not-false}
-use Rattle.laws.specs.Below.{all_below}
 use Rattle.laws.proofs.BelowLaws.{all_none, all_more, all_fails, all_done}
-use Rattle.graph_tables.specs.Words.{clock_count}
-use Rattle.run_steps.specs.Steps.{place_holds, shifted_below}
+use Rattle.run_steps.specs.Steps.{place_holds}
 use Rattle.run_steps.proofs.inner.waits.places_hold_later.Goals as goal
 
 pub loop-p-init : goal.loop-p-init

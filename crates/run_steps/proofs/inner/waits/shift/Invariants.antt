@@ -1,11 +1,7 @@
-use Prim.Native.Nat.{◌+◌, ◌-◌, ◌≤◌}
-use mathlib.Core.Path.{◌≡◌, refl, sym, ap, ◌∙◌}
-use native.Mathlib.Omega.{arith}
-use native.Mathlib.Numerals.{add-one}
-use lib.ListN.{length, get_or, set, length-set}
-use borrow.Author.Rules.{rules}
+use Prim.Native.Nat.{◌-◌, ◌≤◌}
+use mathlib.Core.Path.{◌≡◌}
+use lib.ListN.{length}
 use Rattle.run_steps.specs.Steps.{shifted_below}
-use Rattle.run_steps.proofs.StepLaws.{fits_at, unmoved}
 use Rattle.run_steps.proofs.inner.waits.shift.Given as goal
 
 abbrev pub invariant-loop-i : goal.invariant-loop-i

@@ -15,12 +15,12 @@ pub returns-then-channel_kind-eq-BOOLEAN : goal.returns-then-channel_kind-eq-BOO
 unfolding kind_in
 returns-then-channel_kind-eq-BOOLEAN c =
     let k = c.before in
-    let b = k.before in
+    let b = c.before.before in
     rw (lt-leb _ _ (rw b.width_of.ensures at b.if-width_of-e.false), eq-eqb _ _ (rw k.channel_kind.ensures at c.if-channel_kind-eq-BOOLEAN.true))
 
 pub returns : goal.returns
 unfolding kind_in
 returns c =
     let k = c.before in
-    let b = k.before in
+    let b = c.before.before in
     rw (lt-leb _ _ (rw b.width_of.ensures at b.if-width_of-e.false), ne_eqb _ _ (rw k.channel_kind.ensures at c.if-channel_kind-eq-BOOLEAN.false))

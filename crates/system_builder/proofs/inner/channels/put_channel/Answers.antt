@@ -11,8 +11,8 @@ use Rattle.system_builder.proofs.inner.channels.put_channel.Goals as goal
 pub returns : goal.returns
 returns c =
     let d = c.before.before in
-    let w = d.before.before.before.before in
-    let p = w.before.before.before.before in
+    let w = c.before.before.before.before.before.before in
+    let p = c.before.before.before.before.before.before.before.before.before.before in
     let a = p.args in
     d.set_capacity.ensures
     ∙ ap (λ (u : List ℕ). capacity_set u a.q a.capacity)

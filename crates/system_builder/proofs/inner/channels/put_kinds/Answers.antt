@@ -15,7 +15,7 @@ pub loop-e-preserved : goal.loop-e-preserved
 unfolding with_kinds
 loop-e-preserved c =
     let p = c.before.before in
-    let l = p.before.before.before.before.before in
+    let l = c.before.before.before.before.before.before.before in
     (omega arith, (omega arith, rw (p.set_channel_kind.ensures, p.word-word.ensures, l.loop-e.invariant.1.1, add-one)))
 
 pub returns : goal.returns

@@ -27,7 +27,7 @@ pub returns-then-not-has_room : goal.returns-then-not-has_room
 unfolding channel_check
 returns-then-not-has_room c =
     let v = c.before in
-    let b = v.before in
+    let b = c.before.before in
     passed (Refused BadState) (formed (goal.at.returns-then-not-has_room c).Else-not-system_formed)
     (passed (Refused TableFull) (le-leb _ _ b.if-kinds-gt-MESSAGE.false)
     (stopped (Refused ChannelTooLarge) _ (failed v.has_room.ensures c.if-not-has_room.true-raw)))
@@ -39,8 +39,8 @@ pub returns-then-channel_count-ge-CHANNELS : goal.returns-then-channel_count-ge-
 unfolding channel_check
 returns-then-channel_count-ge-CHANNELS c =
     let n = c.before in
-    let d = n.before in
-    let b = d.before.before in
+    let d = c.before.before in
+    let b = c.before.before.before.before in
     passed (Refused BadState) (formed (goal.at.returns-then-channel_count-ge-CHANNELS c).Else-not-system_formed)
     (passed (Refused TableFull) (le-leb _ _ b.if-kinds-gt-MESSAGE.false)
     (passed (Refused ChannelTooLarge) (held d.has_room.ensures d.if-not-has_room.false-raw)
@@ -50,8 +50,8 @@ pub returns : goal.returns
 unfolding channel_check
 returns c =
     let n = c.before in
-    let d = n.before in
-    let b = d.before.before in
+    let d = c.before.before in
+    let b = c.before.before.before.before in
     passed (Refused BadState) (formed (goal.at.returns c).Else-not-system_formed)
     (passed (Refused TableFull) (le-leb _ _ b.if-kinds-gt-MESSAGE.false)
     (passed (Refused ChannelTooLarge) (held d.has_room.ensures d.if-not-has_room.false-raw)

@@ -23,7 +23,7 @@ pub returns-then-graph_count-ge-GRAPHS : goal.returns-then-graph_count-ge-GRAPHS
 unfolding graph_check
 returns-then-graph_count-ge-GRAPHS c =
     let n = c.before in
-    let w = n.before in
+    let w = c.before.before in
     passed (refused_by 32) (held w.system_formed.ensures w.if-not-system_formed.false-raw)
     (stopped (refused_by 28) _ (le-ltb _ _ (rw n.graph_count.ensures at c.if-graph_count-ge-GRAPHS.true)))
 
@@ -31,6 +31,6 @@ pub returns : goal.returns
 unfolding graph_check
 returns c =
     let n = c.before in
-    let w = n.before in
+    let w = c.before.before in
     passed (refused_by 32) (held w.system_formed.ensures w.if-not-system_formed.false-raw)
     (passed (refused_by 28) (lt-ltb _ _ (rw n.graph_count.ensures at c.if-graph_count-ge-GRAPHS.false)) refl)

@@ -15,7 +15,7 @@ pub returns-in-Refused : goal.returns-in-Refused
 unfolding known_check
 returns-in-Refused c =
     let l = c in
-    then_stops _ (sym l.member_check-check.ensures ∙ l.check-1.given.1)
+    then_stops _ (sym l.member_check-check.ensures ∙ l.in-Refused.is)
 
 pub channel_count-requires : goal.channel_count-requires
 channel_count-requires c = (known_graph _ _ (sym c.member_check-check.ensures ∙ c.in_default.is)).0
@@ -24,7 +24,7 @@ pub returns-then-channel_count-q : goal.returns-then-channel_count-q
 unfolding known_check
 returns-then-channel_count-q c =
     let n = c.before in
-    let e = n.before in
+    let e = c.before.before in
     then_on (sym e.member_check-check.ensures ∙ e.in_default.is)
     (stopped (refused_by 30) _ (le-ltb _ _ (rw n.channel_count.ensures at c.if-channel_count-q.true)))
 
@@ -32,6 +32,6 @@ pub returns : goal.returns
 unfolding known_check
 returns c =
     let n = c.before in
-    let e = n.before in
+    let e = c.before.before in
     then_on (sym e.member_check-check.ensures ∙ e.in_default.is)
     (passed (refused_by 30) (lt-ltb _ _ (rw n.channel_count.ensures at c.if-channel_count-q.false)) refl)

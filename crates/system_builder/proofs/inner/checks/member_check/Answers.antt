@@ -23,7 +23,7 @@ pub returns-then-graph_count-g : goal.returns-then-graph_count-g
 unfolding member_check
 returns-then-graph_count-g c =
     let n = c.before in
-    let w = n.before in
+    let w = c.before.before in
     passed (refused_by 32) (held w.system_formed.ensures w.if-not-system_formed.false-raw)
     (stopped (refused_by 17) _ (le-ltb _ _ (rw n.graph_count.ensures at c.if-graph_count-g.true)))
 
@@ -31,6 +31,6 @@ pub returns : goal.returns
 unfolding member_check
 returns c =
     let n = c.before in
-    let w = n.before in
+    let w = c.before.before in
     passed (refused_by 32) (held w.system_formed.ensures w.if-not-system_formed.false-raw)
     (passed (refused_by 17) (lt-ltb _ _ (rw n.graph_count.ensures at c.if-graph_count-g.false)) refl)

@@ -23,7 +23,7 @@ pub returns-then-channel_count-q : goal.returns-then-channel_count-q
 unfolding read_check
 returns-then-channel_count-q c =
     let n = c.before in
-    let w = n.before in
+    let w = c.before.before in
     passed (refused_by 32) (held w.system_formed.ensures w.if-not-system_formed.false-raw)
     (stopped (refused_by 30) _ (le-ltb _ _ (rw n.channel_count.ensures at c.if-channel_count-q.true)))
 
@@ -31,6 +31,6 @@ pub returns : goal.returns
 unfolding read_check
 returns c =
     let n = c.before in
-    let w = n.before in
+    let w = c.before.before in
     passed (refused_by 32) (held w.system_formed.ensures w.if-not-system_formed.false-raw)
     (passed (refused_by 30) (lt-ltb _ _ (rw n.channel_count.ensures at c.if-channel_count-q.false)) refl)

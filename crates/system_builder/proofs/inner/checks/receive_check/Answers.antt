@@ -12,7 +12,7 @@ pub returns-in-Refused : goal.returns-in-Refused
 unfolding receive_check_on
 returns-in-Refused c =
     let l = c in
-    then_stops _ (sym l.known_check-check.ensures ∙ l.check-1.given.1)
+    then_stops _ (sym l.known_check-check.ensures ∙ l.in-Refused.is)
 
 pub graph_at-requires : goal.graph_at-requires
 graph_at-requires c =
@@ -29,5 +29,5 @@ pub returns : goal.returns
 unfolding receive_check_on
 returns c =
     let g = c.before in
-    let e = g.before in
+    let e = c.before.before in
     then_on (sym e.known_check-check.ensures ∙ e.in_default.is) (rw g.graph_at.ensures at c.received_check.ensures)

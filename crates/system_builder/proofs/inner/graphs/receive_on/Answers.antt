@@ -10,7 +10,7 @@ use Rattle.system_builder.proofs.inner.graphs.receive_on.Goals as goal
 pub returns : goal.returns
 returns c =
     let p = c.before.before in
-    let s = p.before.before in
+    let s = c.before.before.before.before in
     let a = s.args in
     parts
     (on_part_lem (λ (G : List ℕ). new_receive_of G a.vars) a.t.now a.g _ _ s.graph_start-a.ensures refl _ _

@@ -5,13 +5,13 @@ use Rattle.system_builder.proofs.inner.graphs.tell.Goals as goal
 pub set_communication-requires : goal.set_communication-requires
 set_communication-requires c =
     let l = c.before in
-    l.requires _ l.placed-1.given.1
+    l.requires _ l.in-At.is
 
 pub returns-in-At : goal.returns-in-At
 returns-in-At c =
     let p = c.before.before in
-    let l = p.before.before in
-    rw l.placed-1.given.1 p.set_communication.ensures
+    let l = c.before.before.before.before in
+    rw l.in-At.is p.set_communication.ensures
 
 pub returns-in_default : goal.returns-in_default
 returns-in_default c = rw c.in_default.is refl

@@ -15,13 +15,13 @@ loop-e-init c = (search rules, all_none _)
 pub returns-then-not-is_known : goal.returns-then-not-is_known
 returns-then-not-is_known c =
     let d = c.before in
-    let l = d.before.before in
+    let l = c.before.before.before in
     sym (all_fails _ _ l.loop-e.e (omega arith) (failed d.is_known.ensures c.if-not-is_known.true-raw))
 
 pub loop-e-preserved : goal.loop-e-preserved
 loop-e-preserved c =
     let d = c.before in
-    let l = d.before.before in
+    let l = c.before.before.before in
     (omega arith, all_more _ _ l.loop-e.invariant.1 (held d.is_known.ensures c.if-not-is_known.false-raw))
 
 pub returns : goal.returns

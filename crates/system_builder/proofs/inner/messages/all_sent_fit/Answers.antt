@@ -17,18 +17,18 @@ pub returns-then-not-is_of_kind : goal.returns-then-not-is_of_kind
 unfolding sent_fits
 returns-then-not-is_of_kind c =
     let d = c.before in
-    let k = d.before in
-    let n = k.before in
-    let l = n.before.before in
+    let k = c.before.before in
+    let n = c.before.before.before in
+    let l = c.before.before.before.before.before in
     sym (all_fails _ _ l.loop-e.e (omega arith) (failed (rw (k.choose.ensures, n.channel_kind-kind.ensures) at d.is_of_kind.ensures) c.if-not-is_of_kind.true-raw))
 
 pub loop-e-preserved : goal.loop-e-preserved
 unfolding sent_fits
 loop-e-preserved c =
     let d = c.before in
-    let k = d.before in
-    let n = k.before in
-    let l = n.before.before in
+    let k = c.before.before in
+    let n = c.before.before.before in
+    let l = c.before.before.before.before.before in
     (omega arith, all_more _ _ l.loop-e.invariant.1 (held (rw (k.choose.ensures, n.channel_kind-kind.ensures) at d.is_of_kind.ensures) c.if-not-is_of_kind.false-raw))
 
 pub returns : goal.returns

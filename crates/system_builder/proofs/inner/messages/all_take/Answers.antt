@@ -21,13 +21,13 @@ takes-requires c =
 pub returns-then-not-takes : goal.returns-then-not-takes
 returns-then-not-takes c =
     let d = c.before in
-    let l = d.before.before in
+    let l = c.before.before.before in
     sym (all_fails _ _ l.loop-e.e (omega arith) (failed d.takes.ensures c.if-not-takes.true-raw))
 
 pub loop-e-preserved : goal.loop-e-preserved
 loop-e-preserved c =
     let d = c.before in
-    let l = d.before.before in
+    let l = c.before.before.before in
     (omega arith, all_more _ _ l.loop-e.invariant.1 (held d.takes.ensures c.if-not-takes.false-raw))
 
 pub returns : goal.returns

@@ -17,16 +17,16 @@ pub returns-then-not-is_typed : goal.returns-then-not-is_typed
 unfolding sent_typed
 returns-then-not-is_typed c =
     let d = c.before in
-    let k = d.before in
-    let l = k.before.before in
+    let k = c.before.before in
+    let l = c.before.before.before.before in
     sym (all_fails _ _ l.loop-e.e (omega arith) (failed (rw k.choose.ensures at d.is_typed.ensures) c.if-not-is_typed.true-raw))
 
 pub loop-e-preserved : goal.loop-e-preserved
 unfolding sent_typed
 loop-e-preserved c =
     let d = c.before in
-    let k = d.before in
-    let l = k.before.before in
+    let k = c.before.before in
+    let l = c.before.before.before.before in
     (omega arith, all_more _ _ l.loop-e.invariant.1 (held (rw k.choose.ensures at d.is_typed.ensures) c.if-not-is_typed.false-raw))
 
 pub returns : goal.returns

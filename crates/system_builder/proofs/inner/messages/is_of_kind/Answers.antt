@@ -10,6 +10,6 @@ use Rattle.system_builder.proofs.inner.messages.is_of_kind.Goals as goal
 pub returns : goal.returns
 returns c =
     let d = c.before in
-    let k = d.before in
+    let k = c.before.before in
     let a = k.args in
     c.kinded_as.ensures ∙ ap (kinded_as a.kind) (d.type_of.ensures ∙ ap (λ (ks : List ℕ). type_of ks a.items.now) k.kinds_of.ensures)

@@ -10,6 +10,6 @@ use Rattle.system_builder.proofs.inner.messages.is_typed.Goals as goal
 pub returns : goal.returns
 returns c =
     let d = c.before in
-    let k = d.before in
+    let k = c.before.before in
     let a = k.args in
     c.has_kind.ensures ∙ ap kinded (d.type_of.ensures ∙ ap (λ (ks : List ℕ). type_of ks a.items.now) k.kinds_of.ensures)

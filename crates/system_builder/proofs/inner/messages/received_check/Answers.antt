@@ -25,17 +25,17 @@ pub returns-then-vars-width_of : goal.returns-then-vars-width_of
 unfolding received_check
 returns-then-vars-width_of c =
     let n = c.before.before in
-    let d = n.before in
-    let v = d.before in
+    let d = c.before.before.before in
+    let v = c.before.before.before.before in
     if_read_lem (le-leb _ _ v.if-vars-gt-MESSAGE.false) (held v.all_known.ensures d.if-not-all_known.false-raw)
     (stopped (refused_by 5) _ (ne_eqb _ _ (rw n.width_of.ensures at c.if-vars-width_of.true)))
 
 pub all_take-requires : goal.all_take-requires
 all_take-requires c =
     let n = c.before.before in
-    let d = n.before in
-    let v = d.before in
-    let b = v.before in
+    let d = c.before.before.before in
+    let v = c.before.before.before.before in
+    let b = c.before.before.before.before.before in
     let p = b.requires in
     (p.0, p.1, p.2, b.if-vars-gt-MESSAGE.false, λ e l. vars_known _ _ e (held v.all_known.ensures d.if-not-all_known.false-raw) l)
 
@@ -43,10 +43,10 @@ pub returns-then-not-all_take : goal.returns-then-not-all_take
 unfolding received_check
 returns-then-not-all_take c =
     let f = c.before in
-    let j = f.before in
-    let n = j.before.before in
-    let d = n.before in
-    let v = d.before in
+    let j = c.before.before in
+    let n = c.before.before.before.before in
+    let d = c.before.before.before.before.before in
+    let v = c.before.before.before.before.before.before in
     if_read_lem (le-leb _ _ v.if-vars-gt-MESSAGE.false) (held v.all_known.ensures d.if-not-all_known.false-raw)
     (passed (refused_by 5) (eq-eqb _ _ (rw n.width_of.ensures at j.if-vars-width_of.false))
     (stopped (refused_by 5) _ (failed f.all_take.ensures c.if-not-all_take.true-raw)))
@@ -55,10 +55,10 @@ pub returns : goal.returns
 unfolding received_check
 returns c =
     let f = c.before in
-    let j = f.before in
-    let n = j.before.before in
-    let d = n.before in
-    let v = d.before in
+    let j = c.before.before in
+    let n = c.before.before.before.before in
+    let d = c.before.before.before.before.before in
+    let v = c.before.before.before.before.before.before in
     if_read_lem (le-leb _ _ v.if-vars-gt-MESSAGE.false) (held v.all_known.ensures d.if-not-all_known.false-raw)
     (passed (refused_by 5) (eq-eqb _ _ (rw n.width_of.ensures at j.if-vars-width_of.false))
     (passed (refused_by 5) (held f.all_take.ensures c.if-not-all_take.false-raw) refl))

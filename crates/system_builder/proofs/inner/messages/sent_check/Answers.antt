@@ -25,8 +25,8 @@ pub returns-then-count-width_of : goal.returns-then-count-width_of
 unfolding sent_check
 returns-then-count-width_of c =
     let n = c.before in
-    let d = n.before in
-    let v = d.before in
+    let d = c.before.before in
+    let v = c.before.before.before in
     if_read_lem (le-leb _ _ v.if-count-gt-MESSAGE.false) (held v.all_typed.ensures d.if-not-all_typed.false-raw)
     (stopped (refused_by 5) _ (ne_eqb _ _ (rw n.width_of.ensures at c.if-count-width_of.true)))
 
@@ -34,10 +34,10 @@ pub returns-then-not-all_sent_fit : goal.returns-then-not-all_sent_fit
 unfolding sent_check
 returns-then-not-all_sent_fit c =
     let f = c.before in
-    let j = f.before in
-    let n = j.before in
-    let d = n.before in
-    let v = d.before in
+    let j = c.before.before in
+    let n = c.before.before.before in
+    let d = c.before.before.before.before in
+    let v = c.before.before.before.before.before in
     if_read_lem (le-leb _ _ v.if-count-gt-MESSAGE.false) (held v.all_typed.ensures d.if-not-all_typed.false-raw)
     (passed (refused_by 5) (eq-eqb _ _ (rw n.width_of.ensures at j.if-count-width_of.false))
     (stopped (refused_by 5) _ (failed f.all_sent_fit.ensures c.if-not-all_sent_fit.true-raw)))
@@ -46,10 +46,10 @@ pub returns : goal.returns
 unfolding sent_check
 returns c =
     let f = c.before in
-    let j = f.before in
-    let n = j.before in
-    let d = n.before in
-    let v = d.before in
+    let j = c.before.before in
+    let n = c.before.before.before in
+    let d = c.before.before.before.before in
+    let v = c.before.before.before.before.before in
     if_read_lem (le-leb _ _ v.if-count-gt-MESSAGE.false) (held v.all_typed.ensures d.if-not-all_typed.false-raw)
     (passed (refused_by 5) (eq-eqb _ _ (rw n.width_of.ensures at j.if-count-width_of.false))
     (passed (refused_by 5) (held f.all_sent_fit.ensures c.if-not-all_sent_fit.false-raw) refl))
