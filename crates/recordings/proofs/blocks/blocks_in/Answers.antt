@@ -1,8 +1,4 @@
-use Prim.Native.Nat.{ℕ, zero, suc, ◌+◌, ◌-◌, ◌*◌, ◌/◌, ◌%◌, ◌≤◌, ◌<◌}
-use mathlib.Core.Path.{◌≡◌, refl, sym, ap, ◌∙◌}
 use native.Mathlib.Omega.{arith}
-use lib.ListN.{length, get_or, set, length-set}
-use borrow.Author.Rules.{rules}
 use Rattle.recordings.specs.Blocks.{blocks_in}
 use Rattle.recordings.proofs.blocks.blocks_in.Goals as goal
 

@@ -1,11 +1,10 @@
-use Prim.Native.Nat.{ℕ, zero, suc, ◌+◌, ◌-◌, ◌*◌, ◌/◌, ◌%◌, ◌≤◌, ◌<◌}
-use mathlib.Core.Path.{◌≡◌, refl, sym, ap, ◌∙◌}
+use Prim.Native.Nat.{ℕ, ◌+◌, ◌*◌, ◌≤◌, ◌<◌}
+use mathlib.Core.Path.{◌≡◌, sym}
 use native.Mathlib.Omega.{arith}
-use lib.ListN.{length, get_or, set, length-set}
+use lib.ListN.{get_or}
 use borrow.Author.Rules.{rules}
 use mathlib.Core.List.{List}
 use native.Mathlib.Nat.{mul-le-mul, le_trans}
-use Rattle.laws.specs.Below.{sum_below}
 use Rattle.laws.proofs.BelowLaws.{sum_none, sum_more}
 use Rattle.recordings.specs.Blocks.{weighed, sum_of}
 use Rattle.recordings.proofs.blocks.sum.Goals as goal

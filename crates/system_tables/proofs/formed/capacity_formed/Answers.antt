@@ -1,6 +1,5 @@
 use borrow.Author.Tests.{eq-eqb, ne_eqb}
 use Rattle.system_tables.specs.Formed.{capacity_formed}
-use borrow.Author.Rules.{rules}
 use Rattle.system_tables.proofs.formed.capacity_formed.Goals as goal
 
 pub returns-then-sort-eq-BOUNDED : goal.returns-then-sort-eq-BOUNDED

@@ -3,7 +3,6 @@ use Rattle.laws.proofs.BelowLaws.{and_yes, and_no}
 use Rattle.laws.proofs.Tests.{held, failed}
 use Rattle.system_tables.specs.Formed.{channel_formed}
 use Rattle.system_tables.proofs.FormedLaws.{bound_fits}
-use borrow.Author.Rules.{rules}
 use Rattle.system_tables.proofs.formed.channel_formed.Goals as goal
 
 pub returns-then-w-gt-MESSAGE : goal.returns-then-w-gt-MESSAGE

@@ -5,7 +5,6 @@ use Rattle.system_tables.specs.Words.{channel_count}
 use Rattle.system_tables.specs.Formed.{communication_fits}
 use Rattle.system_tables.proofs.FormedLaws.{channel_width}
 use Prim.Native.Nat.{◌<◌}
-use borrow.Author.Rules.{rules}
 use Rattle.system_tables.proofs.formed.communication_fits.Goals as goal
 
 pub returns-then-w-eq-NO_COMMUNICATION : goal.returns-then-w-eq-NO_COMMUNICATION

@@ -1,6 +1,5 @@
 use native.Mathlib.Omega.{arith}
 use Rattle.system_tables.specs.Formed.{communication_formed}
-use borrow.Author.Rules.{rules}
 use Rattle.system_tables.proofs.formed.communication_formed.Goals as goal
 
 pub communication_at-w-requires : goal.communication_at-w-requires

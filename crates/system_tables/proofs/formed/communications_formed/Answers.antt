@@ -1,7 +1,6 @@
 use Rattle.system_tables.specs.Formed.{communications_formed}
 use Prim.Native.Nat.{◌≤◌}
 use Rattle.graph_tables.specs.Sizes.{action_room}
-use borrow.Author.Rules.{rules}
 use Rattle.system_tables.proofs.formed.communications_formed.Goals as goal
 
 pub action_count-requires : goal.action_count-requires

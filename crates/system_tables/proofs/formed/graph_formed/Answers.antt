@@ -1,5 +1,4 @@
 use Rattle.system_tables.specs.Formed.{graph_formed}
-use borrow.Author.Rules.{rules}
 use Rattle.system_tables.proofs.formed.graph_formed.Goals as goal
 
 pub returns : goal.returns

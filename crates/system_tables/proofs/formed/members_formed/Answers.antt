@@ -3,7 +3,6 @@ use Rattle.laws.proofs.Tests.{held, failed}
 use native.Mathlib.Omega.{arith}
 use Rattle.system_tables.specs.Formed.{members_formed}
 use Rattle.system_tables.proofs.FormedLaws.{few_graphs, few_channels, graphs_sound}
-use borrow.Author.Rules.{rules}
 use Rattle.system_tables.proofs.formed.members_formed.Goals as goal
 
 pub all_graphs_formed-requires : goal.all_graphs_formed-requires

@@ -4,7 +4,6 @@ use Rattle.system_tables.specs.Formed.{message_fits}
 use native.Mathlib.Omega.{arith}
 use Rattle.graph_tables.specs.Sizes.{message_room}
 use Prim.Native.Nat.{◌≤◌}
-use borrow.Author.Rules.{rules}
 use Rattle.system_tables.proofs.formed.message_fits.Goals as goal
 
 pub returns-then-message_count-w : goal.returns-then-message_count-w

@@ -1,6 +1,5 @@
 use borrow.Author.Tests.{eq-eqb, ne_eqb}
 use Rattle.system_tables.specs.Formed.{message_formed}
-use borrow.Author.Rules.{rules}
 use Rattle.system_tables.proofs.formed.message_formed.Goals as goal
 
 pub returns-then-k-eq-SEND : goal.returns-then-k-eq-SEND

@@ -1,7 +1,6 @@
 use Rattle.laws.proofs.BelowLaws.{and_yes, and_no}
 use Rattle.laws.proofs.Tests.{held, failed}
 use Rattle.system_tables.specs.Formed.{probe_formed}
-use borrow.Author.Rules.{rules}
 use Rattle.system_tables.proofs.formed.probe_formed.Goals as goal
 
 pub returns-then-not-is_probe : goal.returns-then-not-is_probe

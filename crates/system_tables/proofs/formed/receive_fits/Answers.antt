@@ -1,7 +1,6 @@
 use Rattle.laws.proofs.BelowLaws.{and_yes, and_no}
 use Rattle.laws.proofs.Tests.{held, failed}
 use Rattle.system_tables.specs.Formed.{receive_fits}
-use borrow.Author.Rules.{rules}
 use Rattle.system_tables.proofs.formed.receive_fits.Goals as goal
 
 pub returns-then-not-is_receive : goal.returns-then-not-is_receive

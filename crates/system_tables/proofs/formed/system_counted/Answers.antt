@@ -1,7 +1,6 @@
 use borrow.Author.Tests.{le-leb, lt-leb}
 use Rattle.laws.proofs.BelowLaws.{and_yes, and_no}
 use Rattle.system_tables.specs.Formed.{system_counted}
-use borrow.Author.Rules.{rules}
 use Rattle.system_tables.proofs.formed.system_counted.Goals as goal
 
 pub returns-then-graph_count-gt-GRAPHS : goal.returns-then-graph_count-gt-GRAPHS

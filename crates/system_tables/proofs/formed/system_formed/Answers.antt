@@ -2,7 +2,6 @@ use borrow.Author.Tests.{eq-eqb, ne_eqb}
 use Rattle.laws.proofs.BelowLaws.{and_yes, and_no}
 use Rattle.laws.proofs.Tests.{held, failed}
 use Rattle.system_tables.specs.Formed.{system_formed}
-use borrow.Author.Rules.{rules}
 use Rattle.system_tables.proofs.formed.system_formed.Goals as goal
 
 pub returns-then-t-ne-WORDS : goal.returns-then-t-ne-WORDS

@@ -1,5 +1,4 @@
 use Rattle.system_tables.specs.Formed.{value_fits}
-use borrow.Author.Rules.{rules}
 use Rattle.system_tables.proofs.formed.value_fits.Goals as goal
 
 pub returns : goal.returns

@@ -1,11 +1,7 @@
-use Prim.Native.Nat.{ℕ, zero, suc, ◌+◌, ◌-◌, ◌*◌, ◌/◌, ◌%◌, ◌≤◌, ◌<◌}
-use mathlib.Core.Path.{◌≡◌, refl, sym, ap, ◌∙◌}
-use native.Mathlib.Omega.{arith}
-use lib.ListN.{length, get_or, set, length-set}
-use borrow.Author.Rules.{rules}
+use Prim.Native.Nat.{◌+◌, ◌-◌, ◌≤◌, ◌<◌}
+use mathlib.Core.Path.{◌≡◌}
 use Prim.Native.Nat.{◌^◌}
 use Rattle.recordings.specs.Numbers.{byte, number_at}
-use Rattle.recordings.proofs.NumberLaws.{number_none, number_next, byte_more, seven_bytes}
 use Rattle.recordings.proofs.inner.numbers.number.Given as goal
 
 abbrev pub invariant-loop-k : goal.invariant-loop-k

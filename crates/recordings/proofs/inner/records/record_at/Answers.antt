@@ -1,10 +1,7 @@
-use Prim.Native.Nat.{ℕ, zero, suc, ◌+◌, ◌-◌, ◌*◌, ◌/◌, ◌%◌, ◌≤◌, ◌<◌}
-use mathlib.Core.Path.{◌≡◌, refl, sym, ap, ◌∙◌}
+use Prim.Native.Nat.{ℕ, ◌+◌, ◌-◌, ◌*◌}
+use mathlib.Core.Path.{◌≡◌, ap}
 use native.Mathlib.Omega.{arith}
-use lib.ListN.{length, get_or, set, length-set}
-use borrow.Author.Rules.{rules}
 use lib.ListN.{take, drop, length-take, length-drop}
-use Rattle.recordings.specs.Blocks.{record_part}
 use Rattle.recordings.proofs.inner.records.record_at.Goals as goal
 
 pub returns : goal.returns

@@ -1,9 +1,6 @@
-use Prim.Native.Nat.{ℕ, zero, suc, ◌+◌, ◌-◌, ◌*◌, ◌/◌, ◌%◌, ◌≤◌, ◌<◌}
-use mathlib.Core.Path.{ap, ◌∙◌}
+use mathlib.Core.Path.{◌∙◌}
 use native.Mathlib.Omega.{arith}
-use lib.ListN.{length, length-set}
-use borrow.Author.Rules.{rules}
-use lib.Seq.{length-sets}
+use lib.ListN.{length-set}
 use Rattle.recordings.specs.Numbers.{bytes_of}
 use Rattle.recordings.proofs.StoreLaws.{four_then}
 use Rattle.recordings.proofs.inner.writes.put_front.Goals as goal

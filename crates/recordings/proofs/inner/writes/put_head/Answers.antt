@@ -1,10 +1,7 @@
-use Prim.Native.Nat.{ℕ, zero, suc, ◌+◌, ◌-◌, ◌*◌, ◌/◌, ◌%◌, ◌≤◌, ◌<◌}
-use mathlib.Core.Path.{refl, ap, ◌∙◌}
+use mathlib.Core.Path.{refl}
 use native.Mathlib.Omega.{arith}
-use lib.ListN.{length, length-set}
-use borrow.Author.Rules.{rules}
+use lib.ListN.{length-set}
 use lib.ListN.{replicate}
-use lib.Seq.{length-sets}
 use Rattle.recordings.proofs.StoreLaws.{number_then}
 use Rattle.recordings.proofs.inner.writes.put_head.Goals as goal
 

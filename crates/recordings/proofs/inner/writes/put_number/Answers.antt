@@ -1,9 +1,8 @@
-use Prim.Native.Nat.{ℕ, zero, suc, ◌+◌, ◌-◌, ◌*◌, ◌/◌, ◌%◌, ◌≤◌, ◌<◌}
+use Prim.Native.Nat.{◌+◌, ◌-◌}
 use mathlib.Core.Path.{◌≡◌, refl, ◌∙◌}
 use native.Mathlib.Omega.{arith}
-use lib.ListN.{length, length-set}
+use lib.ListN.{length-set}
 use borrow.Author.Rules.{rules}
-use lib.Seq.{sets}
 use Rattle.recordings.specs.Numbers.{bytes_of}
 use Rattle.recordings.proofs.StoreLaws.{number_store}
 use Rattle.recordings.proofs.inner.writes.put_number.Goals as goal

@@ -1,7 +1,5 @@
-use Prim.Native.Nat.{ℕ, zero, suc, ◌+◌, ◌-◌, ◌*◌, ◌/◌, ◌%◌, ◌≤◌, ◌<◌}
 use mathlib.Core.Path.{sym, ap, ◌∙◌}
 use native.Mathlib.Omega.{arith}
-use borrow.Author.Rules.{rules}
 use lib.Seq.{sets}
 use Rattle.recordings.specs.Numbers.{bytes_of}
 use Rattle.recordings.proofs.PartLaws.{part_past}

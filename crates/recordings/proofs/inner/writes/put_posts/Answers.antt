@@ -1,11 +1,10 @@
-use Prim.Native.Nat.{ℕ, zero, suc, ◌+◌, ◌-◌, ◌*◌, ◌/◌, ◌%◌, ◌≤◌, ◌<◌}
+use Prim.Native.Nat.{◌+◌, ◌-◌, ◌*◌}
 use mathlib.Core.Path.{◌≡◌, refl, ap, ◌∙◌}
 use native.Mathlib.Omega.{arith}
-use lib.ListN.{length}
 use borrow.Author.Rules.{rules}
 use lib.Seq.{sets}
 use Rattle.recordings.specs.Numbers.{bytes_of}
-use Rattle.recordings.specs.Writing.{part_of, joined, posts_of}
+use Rattle.recordings.specs.Writing.{part_of, joined}
 use Rattle.recordings.proofs.DigitLaws.{length_bytes}
 use Rattle.recordings.proofs.PartLaws.{length_part_of}
 use Rattle.recordings.proofs.StoreLaws.{part_store}

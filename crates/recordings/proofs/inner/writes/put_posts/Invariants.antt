@@ -1,14 +1,9 @@
-use Prim.Native.Nat.{ℕ, zero, suc, ◌+◌, ◌-◌, ◌*◌, ◌/◌, ◌%◌, ◌≤◌, ◌<◌}
-use mathlib.Core.Path.{◌≡◌, refl, ap, ◌∙◌}
-use native.Mathlib.Omega.{arith}
+use Prim.Native.Nat.{◌+◌, ◌-◌, ◌*◌, ◌≤◌}
+use mathlib.Core.Path.{◌≡◌}
 use lib.ListN.{length}
-use borrow.Author.Rules.{rules}
 use lib.Seq.{sets}
 use Rattle.recordings.specs.Numbers.{bytes_of}
 use Rattle.recordings.specs.Writing.{part_of, joined, posts_of}
-use Rattle.recordings.proofs.DigitLaws.{length_bytes}
-use Rattle.recordings.proofs.PartLaws.{length_part_of}
-use Rattle.recordings.proofs.StoreLaws.{part_store}
 use Rattle.recordings.proofs.inner.writes.put_posts.Given as goal
 
 abbrev pub invariant-loop-j : goal.invariant-loop-j

@@ -1,5 +1,4 @@
 use native.Mathlib.Omega.{arith}
-use borrow.Author.Rules.{rules}
 use Rattle.system_state.proofs.inner.fits.ceiling_at.Goals as goal
 
 pub capacity_of-capacity-requires : goal.capacity_of-capacity-requires

@@ -1,5 +1,4 @@
 use native.Mathlib.Omega.{arith}
-use borrow.Author.Rules.{rules}
 use Rattle.system_state.specs.Fits.{queue_fits_at}
 use Rattle.system_state.proofs.SoundLaws.{queue_words_lem}
 use Rattle.system_state.proofs.inner.fits.queue_fits.Goals as goal

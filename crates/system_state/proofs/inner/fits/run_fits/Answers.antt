@@ -1,5 +1,4 @@
 use native.Mathlib.Omega.{arith}
-use borrow.Author.Rules.{rules}
 use Rattle.system_state.specs.Fits.{run_fits}
 use Rattle.system_state.proofs.SoundLaws.{run_words_lem}
 use Rattle.system_state.proofs.inner.fits.run_fits.Goals as goal

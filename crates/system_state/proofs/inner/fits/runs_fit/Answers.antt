@@ -1,14 +1,8 @@
-use Prim.Native.Nat.{◌-◌, ◌≤◌}
-use mathlib.Core.Path.{◌≡◌}
-use mathlib.Core.Bool.{true}
 use native.Mathlib.Omega.{arith}
 use borrow.Author.Rules.{rules}
-use Rattle.laws.specs.Below.{all_below}
 use Rattle.laws.proofs.BelowLaws.{all_none, all_more}
 use Rattle.laws.proofs.Tests.{held}
 use Rattle.graph_tables.proofs.FormedLaws.{turn_fails, turns_end}
-use Rattle.system_tables.specs.Words.{graph_count}
-use Rattle.system_state.specs.Fits.{run_fits}
 use Rattle.system_state.proofs.inner.fits.runs_fit.Goals as goal
 
 pub loop-g-init : goal.loop-g-init

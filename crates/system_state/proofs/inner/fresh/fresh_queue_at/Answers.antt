@@ -3,7 +3,6 @@ use mathlib.Core.Path.{◌≡◌, ap, ◌∙◌}
 use mathlib.Core.List.{List, ◌++◌}
 use native.Mathlib.Omega.{arith}
 use lib.ListN.{take, drop}
-use borrow.Author.Rules.{rules}
 use Rattle.queues.specs.Layout.{queue_words}
 use Rattle.queues.specs.Queues.{emptied}
 use Rattle.system_state.proofs.inner.fresh.fresh_queue_at.Goals as goal

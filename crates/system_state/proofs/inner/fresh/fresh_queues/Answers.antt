@@ -1,10 +1,8 @@
-use Prim.Native.Nat.{◌-◌, ◌≤◌}
 use mathlib.Core.Path.{◌≡◌, refl, ap, ◌∙◌}
 use native.Mathlib.Omega.{arith}
 use native.Mathlib.Numerals.{add-one}
 use borrow.Author.Rules.{rules}
 use Rattle.system_tables.specs.Words.{channel_count}
-use Rattle.system_state.specs.Words.{StateWords}
 use Rattle.system_state.specs.Fresh.{fresh_queues_below}
 use Rattle.system_state.proofs.FreshLaws.{fresh_queue_words}
 use Rattle.system_state.proofs.inner.fresh.fresh_queues.Goals as goal

@@ -1,10 +1,8 @@
-use Prim.Native.Nat.{◌-◌, ◌≤◌}
 use mathlib.Core.Path.{◌≡◌, refl, ap, ◌∙◌}
 use native.Mathlib.Omega.{arith}
 use native.Mathlib.Numerals.{add-one}
 use borrow.Author.Rules.{rules}
 use Rattle.system_tables.specs.Words.{graph_count}
-use Rattle.system_state.specs.Words.{StateWords}
 use Rattle.system_state.specs.Fresh.{fresh_runs_below}
 use Rattle.system_state.proofs.FreshLaws.{fresh_run_words}
 use Rattle.system_state.proofs.inner.fresh.fresh_runs.Goals as goal

@@ -1,7 +1,6 @@
-use mathlib.Core.Path.{◌≡◌, ap, ◌∙◌}
+use mathlib.Core.Path.{ap, ◌∙◌}
 use mathlib.Core.List.{List}
 use Prim.Native.Nat.{ℕ}
-use borrow.Author.Rules.{rules}
 use Rattle.system_tables.specs.Words.{graph_count, channel_count}
 use Rattle.system_state.specs.Fresh.{fresh_runs_below, fresh_queues_below, fresh_state}
 use Rattle.system_state.proofs.inner.fresh.fresh_state.Goals as goal

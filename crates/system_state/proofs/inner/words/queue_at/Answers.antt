@@ -3,7 +3,6 @@ use mathlib.Core.Path.{◌≡◌, ap, ◌∙◌}
 use native.Mathlib.Omega.{arith}
 use lib.ListN.{take, drop}
 use Rattle.queues.specs.Layout.{queue_words}
-use borrow.Author.Rules.{rules}
 use Rattle.system_state.proofs.inner.words.queue_at.Goals as goal
 
 pub returns : goal.returns

@@ -2,7 +2,6 @@ use borrow.Author.Tests.{eq-eqb, ne_eqb}
 use native.Mathlib.Omega.{arith}
 use Rattle.queues.specs.Queues.{slots_for}
 use Rattle.system_tables.specs.Ceiling.{ceiling}
-use borrow.Author.Rules.{rules}
 use Rattle.system_tables.proofs.inner.ceiling.ceiling_of.Goals as goal
 
 pub returns-then-slots-eq0 : goal.returns-then-slots-eq0

@@ -1,5 +1,4 @@
 use native.Mathlib.Omega.{arith}
-use borrow.Author.Rules.{rules}
 use Rattle.system_tables.proofs.inner.ceiling.filled_to.Goals as goal
 
 pub overflow_mul-result : goal.overflow_mul-result

@@ -1,5 +1,4 @@
 use Rattle.system_tables.specs.Ceiling.{has_room}
-use borrow.Author.Rules.{rules}
 use Rattle.system_tables.proofs.inner.ceiling.has_room.Goals as goal
 
 pub returns : goal.returns

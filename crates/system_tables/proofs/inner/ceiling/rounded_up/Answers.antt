@@ -2,7 +2,6 @@ use native.Mathlib.Omega.{arith}
 use native.Mathlib.Nat.{mul-div-le}
 use mathlib.Core.Path.{refl}
 use Prim.Native.Nat.{◌+◌, ◌-◌}
-use borrow.Author.Rules.{rules}
 use Rattle.system_tables.proofs.inner.ceiling.rounded_up.Goals as goal
 
 pub returns : goal.returns

@@ -1,6 +1,5 @@
 use borrow.Author.Tests.{eq-eqb, ne_eqb}
 use native.Mathlib.Omega.{arith}
-use borrow.Author.Rules.{rules}
 use Rattle.system_tables.proofs.inner.words.capacity_of.Goals as goal
 
 pub overflow_cast-result : goal.overflow_cast-result

@@ -1,5 +1,4 @@
 use borrow.Author.Tests.{eq-eqb, ne_eqb}
-use borrow.Author.Rules.{rules}
 use Rattle.system_tables.proofs.inner.words.communication_in.Goals as goal
 
 pub returns-then-w-eq-NO_COMMUNICATION : goal.returns-then-w-eq-NO_COMMUNICATION

@@ -1,4 +1,3 @@
-use borrow.Author.Rules.{rules}
 use Rattle.system_tables.proofs.inner.words.communication_of.Goals as goal
 
 pub returns : goal.returns

@@ -3,7 +3,6 @@ use mathlib.Core.Path.{◌≡◌, ap, ◌∙◌}
 use native.Mathlib.Omega.{arith}
 use lib.ListN.{take, drop}
 use Rattle.system_tables.specs.Layout.{channel_kind_cell}
-use borrow.Author.Rules.{rules}
 use Rattle.system_tables.proofs.inner.words.kinds_at.Goals as goal
 
 pub returns : goal.returns

@@ -1,6 +1,5 @@
 use native.Mathlib.Omega.{arith}
 use Rattle.system_tables.proofs.CeilingLaws.{few_messages}
-use borrow.Author.Rules.{rules}
 use Rattle.system_tables.proofs.inner.writers.communication_word.Goals as goal
 
 pub overflow_add-result : goal.overflow_add-result

@@ -1,4 +1,3 @@
-use borrow.Author.Rules.{rules}
 use Rattle.system_tables.proofs.inner.writers.set_capacity.Goals as goal
 
 pub returns-in-Bounded : goal.returns-in-Bounded
