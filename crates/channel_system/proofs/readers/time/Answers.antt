@@ -20,7 +20,7 @@ time_of-requires c =
 pub overflow_cast-result : goal.overflow_cast-result
 overflow_cast-result c =
     let e = c.before in
-    let z = e.before.before.before.before in
+    let z = c.before.before.before.before.before in
     omega (
       arith,
       c.time_of.ensures,

@@ -20,13 +20,13 @@ returns-then-s-ne-WORDS c =
 pub fresh_state-requires : goal.fresh_state-requires
 fresh_state-requires c =
     let f = c.before in
-    let e = f.before in
+    let e = c.before.before in
     (system_sound _ _ (held e.system_formed.ensures e.if-not-system_formed.false-raw), f.if-s-ne-WORDS.false)
 
 pub returns : goal.returns
 unfolding new_instance_of unless
 returns c =
     let w = c.before.before in
-    let f = w.before.before in
-    let e = f.before in
+    let f = c.before.before.before.before in
+    let e = c.before.before.before.before.before in
     rw (held e.system_formed.ensures e.if-not-system_formed.false-raw, eq-eqb _ _ f.if-s-ne-WORDS.false) (refl, w.fresh_state.ensures)

@@ -22,5 +22,5 @@ pub returns : goal.returns
 unfolding transition_of unless
 returns c =
     let w = c.before.before in
-    let e = w.before.before in
+    let e = c.before.before.before.before in
     rw (held e.system_fits.ensures e.if-not-system_fits.false-raw) w.step.ensures

@@ -26,22 +26,22 @@ returns-then-not-system_fits c = stopped _ _ (failed c.system_fits.ensures c.if-
 pub graph_count-requires : goal.graph_count-requires
 graph_count-requires c =
     let e = c.before in
-    let z = e.before.before.before.before in
+    let z = c.before.before.before.before.before in
     (fits_table_lem z.args.t.now z.args.s.now (held e.system_fits.ensures e.if-not-system_fits.false-raw)).words
 
 pub returns-then-graph_count-g : goal.returns-then-graph_count-g
 unfolding nosync_on
 returns-then-graph_count-g c =
     let n = c.before in
-    let e = n.before.before in
+    let e = c.before.before.before in
     passed (Refused (refusal 32)) (held e.system_fits.ensures e.if-not-system_fits.false-raw)
     (stopped _ _ (le-ltb _ _ (rw n.graph_count.ensures at c.if-graph_count-g.true)))
 
 pub graph_at-requires : goal.graph_at-requires
 graph_at-requires c =
     let n = c.before in
-    let e = n.before.before in
-    let z = e.before.before.before.before in
+    let e = c.before.before.before in
+    let z = c.before.before.before.before.before.before.before in
     let fits = held e.system_fits.ensures e.if-not-system_fits.false-raw in
     let known : z.args.pg-id.0 < graph_count z.args.t.now = rw n.graph_count.ensures at c.if-graph_count-g.false in
     let table = fits_table_lem z.args.t.now z.args.s.now fits in
@@ -51,8 +51,8 @@ graph_at-requires c =
 pub process_count-requires : goal.process_count-requires
 process_count-requires c =
     let f = c.before in
-    let n = f.before in
-    let e = n.before.before in
+    let n = c.before.before in
+    let e = c.before.before.before.before in
     let fits = held e.system_fits.ensures e.if-not-system_fits.false-raw in
     let known = rw n.graph_count.ensures at f.if-graph_count-g.false in
     rw c.graph_at.ensures ((fits_table_lem _ _ fits).graph _ known).words
@@ -96,8 +96,8 @@ pub returns : goal.returns
 unfolding nosync_on
 returns c =
     let k = c.before in
-    let h = k.before in
-    let p = h.before in
+    let h = c.before.before in
+    let p = c.before.before.before in
     passed (Refused (refusal 32)) (fits (goal.at.returns c).After-process_count)
     (passed (Refused (refusal 17)) (lt-ltb _ _ (known (goal.at.returns c).After-process_count))
     (passed (Refused (refusal 16)) (eq-eqb _ _ (counted (goal.at.returns c).After-process_count ∙ h.if-process_count-ne1.false))

@@ -20,21 +20,21 @@ returns-then-not-system_fits c = stopped _ _ (failed c.system_fits.ensures c.if-
 pub graph_count-requires : goal.graph_count-requires
 graph_count-requires c =
     let e = c.before in
-    let z = e.before.before.before.before in
+    let z = c.before.before.before.before.before in
     (fits_table_lem z.args.t.now z.args.s.now (held e.system_fits.ensures e.if-not-system_fits.false-raw)).words
 
 pub returns-then-graph_count-g : goal.returns-then-graph_count-g
 unfolding possible_on
 returns-then-graph_count-g c =
     let n = c.before in
-    let e = n.before.before in
+    let e = c.before.before.before in
     passed (Refused (refusal 32)) (held e.system_fits.ensures e.if-not-system_fits.false-raw)
     (stopped _ _ (le-ltb _ _ (rw n.graph_count.ensures at c.if-graph_count-g.true)))
 
 pub seek_on-requires : goal.seek_on-requires
 seek_on-requires c =
     let n = c.before in
-    let e = n.before.before in
+    let e = c.before.before.before in
     let fits = held e.system_fits.ensures e.if-not-system_fits.false-raw in
     record { table = fits_table_lem _ _ fits; state = fits_state _ _ fits; known = rw n.graph_count.ensures at c.if-graph_count-g.false }
 
@@ -42,9 +42,9 @@ pub returns : goal.returns
 unfolding possible_on
 returns c =
     let k = c.before in
-    let f = k.before in
-    let n = f.before in
-    let e = n.before.before in
+    let f = c.before.before in
+    let n = c.before.before.before in
+    let e = c.before.before.before.before.before in
     passed (Refused (refusal 32)) (held e.system_fits.ensures e.if-not-system_fits.false-raw)
     (passed (Refused (refusal 17)) (lt-ltb _ _ (rw n.graph_count.ensures at f.if-graph_count-g.false))
     (c.entry_or_end.ensures ∙ ap entry_or_end k.seek_on.ensures))

@@ -1,5 +1,4 @@
 use mathlib.Core.Bool.{false}
-use borrow.Author.Rules.{rules}
 use Rattle.laws.proofs.BelowLaws.{and_yes, and_no}
 use Rattle.laws.proofs.Tests.{held, failed}
 use Rattle.graph_tables.proofs.SoundLaws.{sound}
@@ -15,4 +14,4 @@ run_formed-requires c = sound _ false (held c.well_formed-2.ensures c.if-not-wel
 
 pub returns : goal.returns
 unfolding fits_table
-returns c = let a = c.before in and_yes (held a.well_formed-2.ensures a.if-not-well_formed.false-raw) c.run_formed.ensures
+returns c = and_yes (held c.well_formed-2.ensures c.if-not-well_formed.false-raw) c.run_formed.ensures

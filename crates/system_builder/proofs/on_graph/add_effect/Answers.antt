@@ -33,10 +33,6 @@ returns c =
     (on_part_lem (λ (G : List ℕ). add_effect_of G a.action.0 a.var.0 a.effect.now) a.t.now a.g.0 _ _ s.graph_start-a.ensures refl _ _
     p.add_effect.ensures.0 p.add_effect.ensures.1))
 
-pub overflow_cast-g : goal.overflow_cast-g
-overflow_cast-g c =
-    (known (goal.at.overflow_cast-g c).In_default).1
-
 pub overflow_add-e : goal.overflow_add-e
 overflow_add-e c =
     let w = known (goal.at.overflow_add-e c).In_default in search (rules, w.0, w.1)
@@ -56,3 +52,6 @@ slice_bounds-add_effect-start c =
 pub slice_bounds-add_effect-end : goal.slice_bounds-add_effect-end
 slice_bounds-add_effect-end c =
     let w = known (goal.at.slice_bounds-add_effect-end c).In_default in search (rules, w.0, w.1)
+
+pub graph_start-a-requires : goal.graph_start-a-requires
+graph_start-a-requires c = (known (goal.at.graph_start-a-requires c).In_default).1

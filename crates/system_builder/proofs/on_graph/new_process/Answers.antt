@@ -33,10 +33,6 @@ returns c =
     (on_part_lem (λ (G : List ℕ). new_process_of G a.location.0) a.t.now a.g.0 _ _ s.graph_start-a.ensures refl _ _
     p.new_process.ensures.0 p.new_process.ensures.1))
 
-pub overflow_cast-g : goal.overflow_cast-g
-overflow_cast-g c =
-    (known (goal.at.overflow_cast-g c).In_default).1
-
 pub overflow_add-e : goal.overflow_add-e
 overflow_add-e c =
     let w = known (goal.at.overflow_add-e c).In_default in search (rules, w.0, w.1)
@@ -56,3 +52,6 @@ slice_bounds-new_process-start c =
 pub slice_bounds-new_process-end : goal.slice_bounds-new_process-end
 slice_bounds-new_process-end c =
     let w = known (goal.at.slice_bounds-new_process-end c).In_default in search (rules, w.0, w.1)
+
+pub graph_start-a-requires : goal.graph_start-a-requires
+graph_start-a-requires c = (known (goal.at.graph_start-a-requires c).In_default).1

@@ -14,5 +14,5 @@ capacity_of-capacity-requires c =
 pub returns : goal.returns
 returns c =
     let a = c.before in
-    let b = a.before in
+    let b = c.before.before in
     rw (a.capacity_of-capacity.ensures, b.stored-stored.ensures, b.queue_at.ensures) at c.list_test.ensures

@@ -15,34 +15,34 @@ loop-g-init c =
 pub seek_on-requires : goal.seek_on-requires
 seek_on-requires c =
     let l = c.before in
-    let z = l.before.before.before.before in
+    let z = c.before.before.before.before.before in
     record { table = z.requires.0; state = z.requires.1; known = rw l.loop-g.invariant.1 at c.loop-g-test.true }
 
 pub overflow_cast-result : goal.overflow_cast-result
 overflow_cast-result c =
     let i = c.before.before in
-    let l = i.before in
-    let z = l.before.before.before.before in
+    let l = c.before.before.before in
+    let z = c.before.before.before.before.before.before.before in
     omega (arith, i.loop-g-test.true, l.loop-g.invariant.1, z.requires.0.graphs)
 
 pub returns-in-Found : goal.returns-in-Found
 returns-in-Found c =
     let e = c in
-    let s = e.before.before in
-    let l = s.before.before in
+    let s = c.before in
+    let l = c.before.before.before in
     let x = l.args in
     entry_found x.t.now x.s.now x.k (graph_count x.t.now) l.loop-g.g (rw l.loop-g.invariant.1 at s.loop-g-test.true)
-    l.loop-g.invariant.2 (sym s.seek_on.ensures ∙ e.entry-1.given.1)
+    l.loop-g.invariant.2 (sym s.seek_on.ensures ∙ e.in-Found.is)
 
 pub loop-g-preserved : goal.loop-g-preserved
 loop-g-preserved c =
     let r = c in
-    let s = r.before.before in
-    let l = s.before.before in
+    let s = c.before in
+    let l = c.before.before.before in
     let x = l.args in (
       omega arith,
       l.loop-g.invariant.1,
-      passes_more x.t.now x.s.now x.k l.loop-g.g l.loop-g.invariant.2 (sym s.seek_on.ensures ∙ r.rest-1.given.1),
+      passes_more x.t.now x.s.now x.k l.loop-g.g l.loop-g.invariant.2 (sym s.seek_on.ensures ∙ r.in-Left.is),
     )
 
 pub returns : goal.returns

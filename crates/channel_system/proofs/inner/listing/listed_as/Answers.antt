@@ -6,12 +6,12 @@ use Rattle.channel_system.proofs.inner.listing.listed_as.Goals as goal
 pub channel_lists-requires : goal.channel_lists-requires
 channel_lists-requires c =
     let m = c.before in
-    let w = m.before.before in
-    let z = w.before.before.before in (
+    let w = c.before.before in
+    let z = c.before.before.before.before.before in (
       z.requires.table,
       z.requires.state,
       spoken_channel z.args.t.now z.args.g z.args.a z.requires.table z.requires.known
-          (sym w.spoken_by.ensures ∙ m.m-1.given.1),
+          (sym w.spoken_by.ensures ∙ m.in-On.is),
     )
 
 pub returns-in-Plain : goal.returns-in-Plain
@@ -20,5 +20,5 @@ returns-in-Plain c = rw (sym c.spoken_by.ensures ∙ c.in-Plain.is)
 pub returns-in-On : goal.returns-in-On
 returns-in-On c =
     let m = c.before.before in
-    let w = m.before.before in
-    rw (sym w.spoken_by.ensures ∙ m.m-1.given.1) c.channel_lists.ensures
+    let w = c.before.before.before in
+    rw (sym w.spoken_by.ensures ∙ m.in-On.is) c.channel_lists.ensures

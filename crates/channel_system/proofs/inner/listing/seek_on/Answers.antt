@@ -21,13 +21,13 @@ loop-a-init c = (search rules, c.action_count-a-end.ensures ∙ ap action_count 
 pub overflow_cast-a : goal.overflow_cast-a
 overflow_cast-a c =
     let l = c.before in
-    let z = l.before.before.before.before.before in
+    let z = c.before.before.before.before.before.before in
     omega (arith, l.loop-a.invariant.1, (z.requires.table.graph z.args.g z.requires.known).counts.actions)
 
 pub returns-in_default : goal.returns-in_default
 returns-in_default c =
     let s = c.before in
-    let l = s.before.before in
+    let l = c.before.before.before in
     let x = l.args in
     let by = entries_by x.t.now x.s.now x.g in
     let n = action_count (graph_part x.t.now x.g) in

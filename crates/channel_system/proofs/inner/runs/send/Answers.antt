@@ -10,17 +10,17 @@ use Rattle.channel_system.proofs.inner.runs.send.Goals as goal
 pub send_on-requires : goal.send_on-requires
 send_on-requires c =
     let h = c.before in
-    let b = h.before in
-    let z = b.before.before.before.before in
+    let b = c.before.before in
+    let z = c.before.before.before.before.before.before in
     let e : b.run_start-at.result + run_words - b.run_start-at.result ≡ run_words = omega arith in
     lent z.requires _ _ _ h.graph_at.ensures b.run_start-at.ensures e
 
 pub returns : goal.returns
 returns c =
     let w = c.before.before in
-    let h = w.before.before in
-    let b = h.before in
-    let z = b.before.before.before.before in
+    let h = c.before.before.before.before in
+    let b = c.before.before.before.before.before in
+    let z = c.before.before.before.before.before.before.before.before.before in
     let e : b.run_start-at.result + run_words - b.run_start-at.result ≡ run_words = omega arith in
     ran_send z.requires _ _ _ h.graph_at.ensures b.run_start-at.ensures e z.args.a z.args.posts.now _ z.args.word _
     w.send_on.ensures

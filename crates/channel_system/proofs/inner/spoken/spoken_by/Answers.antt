@@ -14,15 +14,15 @@ action_count-requires c =
 pub returns-then-action_count-a : goal.returns-then-action_count-a
 returns-then-action_count-a c =
     let n = c.before in
-    let h = n.before in
-    let z = h.before.before in
+    let h = c.before.before in
+    let z = c.before.before.before.before in
     spoken_none z.args.t.now z.args.g z.args.a (rw (n.action_count.ensures, h.graph_at.ensures) at c.if-action_count-a.true)
 
 pub communication_of-requires : goal.communication_of-requires
 communication_of-requires c =
     let n = c.before in
-    let h = n.before in
-    let z = h.before.before in
+    let h = c.before.before in
+    let z = c.before.before.before.before in
     let known = rw (n.action_count.ensures, h.graph_at.ensures) at c.if-action_count-a.false in
     let G = z.requires.0.graph z.args.g z.requires.1 in
     let small : z.args.g < graph_room = omega (arith, z.requires.1, z.requires.0.graphs) in (
@@ -35,8 +35,8 @@ communication_of-requires c =
 pub returns : goal.returns
 returns c =
     let e = c.before in
-    let n = e.before in
-    let h = n.before in
-    let z = h.before.before in
+    let n = c.before.before in
+    let h = c.before.before.before in
+    let z = c.before.before.before.before.before in
     c.communication_of.ensures
     ∙ spoken_some z.args.t.now z.args.g z.args.a (rw (n.action_count.ensures, h.graph_at.ensures) at e.if-action_count-a.false)

@@ -16,19 +16,19 @@ channel_answer-open-requires c =
 pub returns-in-Refused : goal.returns-in-Refused
 returns-in-Refused c =
     let a = c.before in
-    let b = a.before.before in
+    let b = c.before.before in
     rw (sym b.channel_answer-open.ensures ∙ a.«open».given.1) (c.refused.ensures, refl)
 
 pub message_step-requires : goal.message_step-requires
 message_step-requires c =
     let a = c.before in
-    let b = a.before in
-    let z = b.before.before.before.before in
+    let b = c.before.before in
+    let z = c.before.before.before.before.before.before in
     (z.requires.0, z.requires.1, λ e. received_some _ (rw e at (sym b.channel_answer-open.ensures ∙ a.in_default.is)))
 
 pub returns : goal.returns
 returns c =
     let w = c.before.before in
-    let a = w.before.before in
-    let b = a.before in
+    let a = c.before.before.before.before in
+    let b = c.before.before.before.before.before in
     rw (sym b.channel_answer-open.ensures ∙ a.in_default.is) w.message_step.ensures

@@ -10,13 +10,13 @@ use Rattle.channel_system.proofs.inner.steps.message_step.Goals as goal
 pub send_step-requires : goal.send_step-requires
 send_step-requires c =
     let m = c.before in
-    let z = m.before.before.before.before in
+    let z = c.before.before.before.before.before in
     (z.requires.0, rw m.in-Send.is at z.requires.1)
 
 pub receive_step-requires : goal.receive_step-requires
 receive_step-requires c =
     let m = c.before in
-    let z = m.before.before.before.before in
+    let z = c.before.before.before.before.before in
     (z.requires.0, rw m.in-Receive.is at z.requires.1, z.requires.2 m.in-Receive.is)
 
 pub returns-in-Send : goal.returns-in-Send

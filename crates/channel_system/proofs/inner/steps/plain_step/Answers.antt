@@ -12,7 +12,7 @@ pub returns : goal.returns
 unfolding plain_step
 returns c =
     let w = c.before.before.before in
-    let z = w.before.before.before.before.before in
+    let z = c.before.before.before.before.before.before.before.before in
     let g = z.args.g in (
       ap (λ (e : Event). record { answer = w.step-answer.result; event = e }) c.silent.ensures ∙ plain_told g w.step-answer.ensures.0,
       ran_state w.step-answer.ensures.1 w.step-answer.ensures.0,

@@ -11,18 +11,18 @@ pub returns-in-Refused : goal.returns-in-Refused
 unfolding probe_step
 returns-in-Refused c =
     let a = c.before in
-    let b = a.before.before.before.before in
-    let z = b.before.before.before.before.before in
-    told_refused z.args.g z.args.s.now _ _ (sym b.send-said.ensures.0 ∙ a.answer-1.given.1) c.refused.ensures
-    (ran_back b.send-said.ensures.2 a.answer-1.given.1)
+    let b = c.before.before.before.before in
+    let z = c.before.before.before.before.before.before.before.before.before in
+    told_refused z.args.g z.args.s.now _ _ (sym b.send-said.ensures.0 ∙ a.in-Refused.is) c.refused.ensures
+    (ran_back b.send-said.ensures.2 a.in-Refused.is)
 
 pub returns : goal.returns
 unfolding probe_step
 returns c =
     let n = c.before in
-    let a = n.before in
-    let b = a.before.before.before in
-    let z = b.before.before.before.before.before in
+    let a = c.before.before in
+    let b = c.before.before.before.before.before in
+    let z = c.before.before.before.before.before.before.before.before.before.before in
     told_accepted z.args.g z.args.s.now _ _ (sym b.send-said.ensures.0 ∙ a.in_default.is)
     (rw n.no_message.ensures at c.told.ensures)
     (ran_on_lem b.send-said.ensures.2 a.in_default.is)

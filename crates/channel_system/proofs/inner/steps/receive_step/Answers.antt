@@ -20,18 +20,18 @@ pub returns-in-Refused : goal.returns-in-Refused
 unfolding receive_step
 returns-in-Refused c =
     let a = c.before in
-    let b = a.before.before.before.before in
-    let o = b.before.before in
-    let z = o.before.before.before.before in
-    told_refused z.args.g z.args.s.now _ _ (rw o.oldest_in-message.ensures at (sym b.receive-answer.ensures.0 ∙ a.answer-1.given.1))
+    let b = c.before.before.before.before in
+    let o = c.before.before.before.before.before.before in
+    let z = c.before.before.before.before.before.before.before.before.before.before in
+    told_refused z.args.g z.args.s.now _ _ (rw o.oldest_in-message.ensures at (sym b.receive-answer.ensures.0 ∙ a.in-Refused.is))
     c.refused.ensures
-    (ran_back b.receive-answer.ensures.1 a.answer-1.given.1)
+    (ran_back b.receive-answer.ensures.1 a.in-Refused.is)
 
 pub take_from-requires : goal.take_from-requires
 take_from-requires c =
     let a = c.before in
-    let b = a.before.before.before in
-    let z = b.before.before.before.before.before.before in
+    let b = c.before.before.before.before in
+    let z = c.before.before.before.before.before.before.before.before.before.before in
     let f = z.requires.0 in
     let l = speaks_channel f z.requires.1 in (
       f.table,
@@ -46,10 +46,10 @@ pub returns : goal.returns
 unfolding receive_step
 returns c =
     let w = c.before.before.before in
-    let a = w.before.before in
-    let b = a.before.before.before in
-    let o = b.before.before in
-    let z = o.before.before.before.before in
+    let a = c.before.before.before.before.before in
+    let b = c.before.before.before.before.before.before.before.before in
+    let o = c.before.before.before.before.before.before.before.before.before.before in
+    let z = c.before.before.before.before.before.before.before.before.before.before.before.before.before.before in
     let u = ran_on_lem b.receive-answer.ensures.1 a.in_default.is in
     told_accepted z.args.g z.args.s.now _ _ (rw o.oldest_in-message.ensures at (sym b.receive-answer.ensures.0 ∙ a.in_default.is))
     (rw o.oldest_in-message.ensures at c.told.ensures)

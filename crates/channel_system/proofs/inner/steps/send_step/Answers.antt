@@ -11,16 +11,16 @@ pub returns-in-Refused : goal.returns-in-Refused
 unfolding send_step
 returns-in-Refused c =
     let a = c.before in
-    let b = a.before.before.before.before.before in
-    let z = b.before.before.before.before.before in
-    told_refused z.args.g z.args.s.now _ _ (sym b.send-said.ensures.0 ∙ a.answer-1.given.1) c.refused.ensures
-    (ran_back b.send-said.ensures.2 a.answer-1.given.1)
+    let b = c.before.before.before.before.before in
+    let z = c.before.before.before.before.before.before.before.before.before.before in
+    told_refused z.args.g z.args.s.now _ _ (sym b.send-said.ensures.0 ∙ a.in-Refused.is) c.refused.ensures
+    (ran_back b.send-said.ensures.2 a.in-Refused.is)
 
 pub send_into-requires : goal.send_into-requires
 send_into-requires c =
     let a = c.before in
-    let b = a.before.before.before.before in
-    let z = b.before.before.before.before.before in
+    let b = c.before.before.before.before.before in
+    let z = c.before.before.before.before.before.before.before.before.before.before in
     let l = speaks_channel z.requires.0 z.requires.1 in (
       z.requires.0.table,
       l,
@@ -34,9 +34,9 @@ pub returns : goal.returns
 unfolding send_step
 returns c =
     let w = c.before.before.before in
-    let a = w.before.before in
-    let b = a.before.before.before.before in
-    let z = b.before.before.before.before.before in
+    let a = c.before.before.before.before.before in
+    let b = c.before.before.before.before.before.before.before.before.before in
+    let z = c.before.before.before.before.before.before.before.before.before.before.before.before.before.before in
     let u = ran_on_lem b.send-said.ensures.2 a.in_default.is in
     told_accepted z.args.g z.args.s.now _ _ (sym b.send-said.ensures.0 ∙ a.in_default.is)
     (rw b.send-said.ensures.1 at c.told.ensures)

@@ -9,18 +9,18 @@ use Rattle.channel_system.proofs.inner.steps.step_as.Goals as goal
 pub communicate-requires : goal.communicate-requires
 communicate-requires c =
     let m = c.before in
-    let b = m.before.before in
-    let z = b.before.before.before.before in
-    (z.requires, spoken_speaks z.args.t.now z.args.g z.args.a _ _ (sym b.spoken_by.ensures ∙ m.m-1.given.1))
+    let b = c.before.before in
+    let z = c.before.before.before.before.before.before in
+    (z.requires, spoken_speaks z.args.t.now z.args.g z.args.a _ _ (sym b.spoken_by.ensures ∙ m.in-On.is))
 
 pub returns-in-Plain : goal.returns-in-Plain
 returns-in-Plain c =
     let w = c.before.before in
-    let a = w.before.before in
+    let a = c.before.before.before.before in
     rw (sym a.spoken_by.ensures ∙ a.in-Plain.is) w.plain_step.ensures
 
 pub returns-in-On : goal.returns-in-On
 returns-in-On c =
     let w = c.before.before in
-    let m = w.before.before in
-    rw (sym m.spoken_by.ensures ∙ m.m-1.given.1) w.communicate.ensures
+    let m = c.before.before.before.before in
+    rw (sym m.spoken_by.ensures ∙ m.in-On.is) w.communicate.ensures

@@ -21,7 +21,7 @@ capacity_of-capacity-requires c =
 pub step_test-requires : goal.step_test-requires
 step_test-requires c =
     let k = c.before.before in
-    let z = k.before.before.before.before in
+    let z = c.before.before.before.before.before.before in
     let e : k.stored-stored.result ≡ stored_of (queue_part z.args.s.now z.args.q) = k.stored-stored.ensures
     ∙ ap stored_of k.queue_at.ensures in (
       omega (arith, e, (z.requires.1.queue z.args.q z.requires.2).formed.few),
@@ -32,7 +32,7 @@ step_test-requires c =
 pub returns : goal.returns
 returns c =
     let k = c.before.before.before in
-    let z = k.before.before.before.before in
+    let z = c.before.before.before.before.before.before.before in
     let e : k.stored-stored.result ≡ stored_of (queue_part z.args.s.now z.args.q) = k.stored-stored.ensures
     ∙ ap stored_of k.queue_at.ensures in
     c.step_test.ensures ∙ rw (e, c.width_of-width.ensures, c.capacity_of-capacity.ensures)

@@ -22,7 +22,7 @@ pub returns-then-not-stores_in : goal.returns-then-not-stores_in
 unfolding sent_into
 returns-then-not-stores_in c =
     let k = c.before.before in
-    let z = k.before.before.before in
+    let z = c.before.before.before.before.before in
     let e : stores (capacity_of z.args.t.now z.args.q) ≡ false =
     ap stores (sym k.capacity_of-capacity.ensures) ∙ failed c.stores_in.ensures c.if-not-stores_in.true-raw in
     rw e
@@ -30,7 +30,7 @@ returns-then-not-stores_in c =
 pub push_all-requires : goal.push_all-requires
 push_all-requires c =
     let b = c.before in
-    let z = b.before.before.before.before.before.before in
+    let z = c.before.before.before.before.before.before.before in
     let e : b.queue_start-at.result + queue_words - b.queue_start-at.result ≡ queue_words = omega arith in
     (rw (lent_is z.args.s.now z.args.q _ _ b.queue_start-at.ensures e) z.requires.3, z.requires.4)
 
@@ -38,10 +38,10 @@ pub returns : goal.returns
 unfolding sent_into
 returns c =
     let w = c.before.before in
-    let b = w.before.before in
-    let l = b.before in
-    let k = l.before.before in
-    let z = k.before.before.before in
+    let b = c.before.before.before.before in
+    let l = c.before.before.before.before.before in
+    let k = c.before.before.before.before.before.before.before in
+    let z = c.before.before.before.before.before.before.before.before.before.before in
     let e : b.queue_start-at.result + queue_words - b.queue_start-at.result ≡ queue_words = omega arith in
     let some : stores (capacity_of z.args.t.now z.args.q) ≡ true =
     ap stores (sym k.capacity_of-capacity.ensures) ∙ held l.stores_in.ensures l.if-not-stores_in.false-raw in

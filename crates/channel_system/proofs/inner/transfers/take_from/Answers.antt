@@ -13,8 +13,8 @@ use Rattle.channel_system.proofs.inner.transfers.take_from.Goals as goal
 pub drop_front-requires : goal.drop_front-requires
 drop_front-requires c =
     let b = c.before.before in
-    let k = b.before in
-    let z = k.before.before.before in
+    let k = c.before.before.before in
+    let z = c.before.before.before.before.before.before in
     let e : b.queue_start-at.result + queue_words - b.queue_start-at.result ≡ queue_words = omega arith in
     let n : c.slots_for.result ≡ slots_for (width_of z.args.t.now z.args.q) = c.slots_for.ensures
     ∙ ap slots_for k.width_of-width.ensures in
@@ -23,10 +23,10 @@ drop_front-requires c =
 pub returns : goal.returns
 returns c =
     let w = c.before.before in
-    let f = w.before in
-    let b = f.before.before in
-    let k = b.before in
-    let z = k.before.before.before in
+    let f = c.before.before.before in
+    let b = c.before.before.before.before.before in
+    let k = c.before.before.before.before.before.before in
+    let z = c.before.before.before.before.before.before.before.before.before in
     let e : b.queue_start-at.result + queue_words - b.queue_start-at.result ≡ queue_words = omega arith in
     let n : f.slots_for.result ≡ slots_for (width_of z.args.t.now z.args.q) = f.slots_for.ensures
     ∙ ap slots_for k.width_of-width.ensures in

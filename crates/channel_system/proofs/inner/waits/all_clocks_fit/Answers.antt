@@ -17,13 +17,13 @@ loop-g-init c = (search rules, c.graph_count-g-end.ensures, all_none _)
 pub clocks_fit-requires : goal.clocks_fit-requires
 clocks_fit-requires c =
     let l = c.before in
-    let z = l.before.before.before.before in
+    let z = c.before.before.before.before.before in
     record { table = z.requires.0; state = z.requires.1; known = rw l.loop-g.invariant.1 at c.loop-g-test.true }
 
 pub returns-then-not-clocks_fit : goal.returns-then-not-clocks_fit
 returns-then-not-clocks_fit c =
     let i = c.before.before in
-    let l = i.before in
+    let l = c.before.before.before in
     turn_fails _ _ l.loop-g.g (rw l.loop-g.invariant.1 at i.loop-g-test.true) c.clocks_fit.ensures c.if-not-clocks_fit.true-raw
 
 pub loop-g-preserved : goal.loop-g-preserved

@@ -15,13 +15,13 @@ loop-g-init c = (search rules, c.graph_count-g-end.ensures, any_none _)
 pub graph_waits-requires : goal.graph_waits-requires
 graph_waits-requires c =
     let l = c.before in
-    let z = l.before.before.before.before in
+    let z = c.before.before.before.before.before in
     record { table = z.requires.0; state = z.requires.1; known = rw l.loop-g.invariant.1 at c.loop-g-test.true }
 
 pub returns-then-graph_waits : goal.returns-then-graph_waits
 returns-then-graph_waits c =
     let i = c.before.before in
-    let l = i.before in
+    let l = c.before.before.before in
     sym
     (any_found _ _ l.loop-g.g (rw l.loop-g.invariant.1 at i.loop-g-test.true)
     (sym c.graph_waits.ensures ∙ c.if-graph_waits.true))

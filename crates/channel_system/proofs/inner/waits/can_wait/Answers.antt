@@ -20,6 +20,6 @@ pub returns : goal.returns
 unfolding wait_open
 returns c =
     let o = c.before in
-    let e = o.before in
+    let e = c.before.before in
     and_yes (held e.all_fit.ensures e.if-not-all_fit.false-raw)
     (rw (o.objector.ensures, c.graph_count.ensures) (lowest_tells _ _))

@@ -5,7 +5,7 @@ use Rattle.channel_system.proofs.inner.waits.clocks_fit.Goals as goal
 pub wait_fits-requires : goal.wait_fits-requires
 wait_fits-requires c =
     let h = c.before in
-    let z = h.before.before.before in
+    let z = c.before.before.before.before in
     rw (h.graph_at.ensures, c.run_at.ensures)
     (z.requires.table.graph z.args.g z.requires.known, (z.requires.state.run z.args.g z.requires.known).run)
 

@@ -6,7 +6,7 @@ pub wait_holds-requires : goal.wait_holds-requires
 unfolding clocks_fit
 wait_holds-requires c =
     let h = c.before in
-    let z = h.before.before.before in
+    let z = c.before.before.before.before in
     let f = z.requires.0 in
     rw (h.graph_at.ensures, c.run_at.ensures)
     (f.table.graph z.args.g f.known, (f.state.run z.args.g f.known).run, z.requires.1)

@@ -24,9 +24,9 @@ pub returns : goal.returns
 unfolding later_state
 returns c =
     let w = c.before.before in
-    let g = w.before.before.before.before in
-    let m = g.before.before in
-    let z = m.before.before.before in
+    let g = c.before.before.before.before.before.before in
+    let m = c.before.before.before.before.before.before.before.before in
+    let z = c.before.before.before.before.before.before.before.before.before.before.before in
     let t = z.args.t.now in
     let s = z.args.s.now in
     w.set_time.ensures

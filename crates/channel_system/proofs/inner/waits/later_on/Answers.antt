@@ -26,8 +26,8 @@ pub advance-requires : goal.advance-requires
 unfolding clocks_fit
 advance-requires c =
     let h = c.before in
-    let b = h.before in
-    let z = b.before.before.before in
+    let b = c.before.before in
+    let z = c.before.before.before.before.before in
     let f = z.requires.0 in
     rw (h.graph_at.ensures, lent z.args.s.now z.args.g b.run_start-a.result b.run_start-a.ensures)
     (f.table.graph z.args.g f.known, (f.state.run z.args.g f.known).run, z.requires.1)
@@ -35,16 +35,16 @@ advance-requires c =
 pub returns : goal.returns
 returns c =
     let w = c.before.before in
-    let h = w.before.before in
-    let b = h.before in
-    let z = b.before.before.before in
+    let h = c.before.before.before.before in
+    let b = c.before.before.before.before.before in
+    let z = c.before.before.before.before.before.before.before.before in
     let s = z.args.s.now in
     let g = z.args.g in
     let G = graph_part z.args.t.now g in
     let a = b.run_start-a.result in
     let n : a + run_words - a ≡ run_words = omega arith in
     let W = words_of G (run_part s g) (later (run_of s g) z.args.delta) in
-    let left : Leaves G (run_part s g) (later (run_of s g) z.args.delta) w.advance.new.1.0 =
+    let left : Leaves G (run_part s g) (later (run_of s g) z.args.delta) w.advance.new.r.0 =
     rw (h.graph_at.ensures, lent s g a b.run_start-a.ensures) at w.advance.ensures
     in
     ap (λ (x : List ℕ). take a s ++ (x ++ drop (a + run_words - a) (drop a s)))

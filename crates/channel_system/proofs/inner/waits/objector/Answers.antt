@@ -18,7 +18,7 @@ loop-g-init c = (search rules, c.graph_count-n.ensures, all_none _)
 pub graph_holds-requires : goal.graph_holds-requires
 graph_holds-requires c =
     let l = c.before in
-    let z = l.before.before.before.before in
+    let z = c.before.before.before.before.before in
     let known = rw l.loop-g.invariant.1 at c.loop-g-test.true in (
       record { table = z.requires.0; state = z.requires.1; known = known },
       clock_fits_lem z.args.t.now z.requires.0 z.args.s.now z.requires.1 z.args.delta z.requires.2 l.loop-g.g known,
@@ -27,7 +27,7 @@ graph_holds-requires c =
 pub returns-then-not-graph_holds : goal.returns-then-not-graph_holds
 returns-then-not-graph_holds c =
     let i = c.before.before in
-    let l = i.before in
+    let l = c.before.before.before in
     sym
     (lowest_at _ _ l.loop-g.g (rw l.loop-g.invariant.1 at i.loop-g-test.true) l.loop-g.invariant.2
     (failed c.graph_holds.ensures c.if-not-graph_holds.true-raw))

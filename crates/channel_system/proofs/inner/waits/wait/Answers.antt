@@ -21,22 +21,22 @@ returns-then-not-all_fit c = rw (failed c.all_fit.ensures c.if-not-all_fit.true-
 pub objector-g-requires : goal.objector-g-requires
 objector-g-requires c =
     let e = c.before in
-    let z = e.before.before.before in
+    let z = c.before.before.before.before in
     (z.requires.0, z.requires.1, held e.all_fit.ensures c.if-not-all_fit.false-raw)
 
 pub overflow_cast-result : goal.overflow_cast-result
 overflow_cast-result c =
     let n = c.before in
-    let z = n.before.before.before.before.before.before in
+    let z = c.before.before.before.before.before.before.before in
     omega (arith, c.if-g-graph_count.true, n.graph_count.ensures, z.requires.0.graphs)
 
 pub returns-then-g-graph_count : goal.returns-then-g-graph_count
 unfolding passed_of unless
 returns-then-g-graph_count c =
     let n = c.before in
-    let o = n.before in
-    let e = o.before.before in
-    let z = e.before.before.before in
+    let o = c.before.before in
+    let e = c.before.before.before.before in
+    let z = c.before.before.before.before.before.before.before in
     let t = z.args.t.now in
     let holds = graph_holds t z.args.s.now z.args.delta in
     let some : all_below (graph_count t) holds ≡ false =
@@ -48,18 +48,18 @@ returns-then-g-graph_count c =
 pub later-requires : goal.later-requires
 later-requires c =
     let e = c.before.before.before.before.before in
-    let z = e.before.before.before in
+    let z = c.before.before.before.before.before.before.before.before in
     (z.requires.0, z.requires.1, held e.all_fit.ensures c.if-not-all_fit.false-raw)
 
 pub returns : goal.returns
 unfolding passed_of unless
 returns c =
     let l = c.before.before in
-    let f = l.before.before in
-    let n = f.before in
-    let o = n.before in
-    let e = o.before.before in
-    let z = e.before.before.before in
+    let f = c.before.before.before.before in
+    let n = c.before.before.before.before.before in
+    let o = c.before.before.before.before.before.before in
+    let e = c.before.before.before.before.before.before.before.before in
+    let z = c.before.before.before.before.before.before.before.before.before.before.before in
     let t = z.args.t.now in
     let holds = graph_holds t z.args.s.now z.args.delta in
     let past : graph_count t ≤ lowest (graph_count t) holds = rw (o.objector-g.ensures, n.graph_count.ensures) at f.if-g-graph_count.false in

@@ -1,7 +1,5 @@
-use Prim.Native.Nat.{◌-◌}
 use mathlib.Core.Path.{refl, ap, ◌∙◌}
 use native.Mathlib.Omega.{arith}
-use borrow.Author.Rules.{rules}
 use Rattle.program_graph.specs.declared.record.ProgramGraphRun.{ProgramGraphRun}
 use Rattle.program_graph.proofs.LeaveLaws.{variables_same}
 use Rattle.program_graph.proofs.ValueLaws.{stored_run, sent_small, sent_back}
@@ -9,36 +7,27 @@ use Rattle.program_graph.proofs.inner.by_value.send.Goals as goal
 
 pub store-requires : goal.store-requires
 store-requires c =
-    let s = c.before.before.before in
-    (refl, omega (arith, variables_same s.args.t.now s.args.run s.requires.1, s.requires.0.counts.variables))
+    (refl, omega (arith, variables_same c.args.t.now c.args.run c.requires.1, c.requires.0.counts.variables))
 
 pub send_on-said-requires : goal.send_on-said-requires
 send_on-said-requires c =
-    let k = c.before.before in
-    let s = k.before.before.before.before in
-    (s.requires.0, stored_run s.args.t.now s.args.run k.store.new.0 s.requires.0 s.requires.1 k.store.ensures)
+    (c.requires.0, stored_run c.args.t.now c.args.run c.store.new.r c.requires.0 c.requires.1 c.store.ensures)
 
 pub load-requires : goal.load-requires
 load-requires c =
-    let x = c.before.before.before in
-    let k = x.before.before.before in
-    let s = k.before.before.before.before in
-    let did = x.send_on-said.ensures in
+    let did = c.send_on-said.ensures in
     let small =
-    sent_small s.args.t.now s.args.run k.store.new.0 s.requires.0 s.requires.1 k.store.ensures s.args.action
-    s.args.posts.now _ s.args.word _ did in (
+    sent_small c.args.t.now c.args.run c.store.new.r c.requires.0 c.requires.1 c.store.ensures c.args.action
+    c.args.posts.now _ c.args.word _ did in (
       did.words.words,
-      omega (arith, variables_same s.args.t.now s.args.run s.requires.1, s.requires.0.counts.variables),
+      omega (arith, variables_same c.args.t.now c.args.run c.requires.1, c.requires.0.counts.variables),
       small.0,
       small.1,
     )
 
 pub returns : goal.returns
 returns c =
-    let x = c.before.before.before.before in
-    let k = x.before.before.before in
-    let s = k.before.before.before.before in
-    ap (λ (y : ProgramGraphRun). record { answer = x.send_on-said.result.answer; message = x.send_on-said.result.message; run = y })
+    ap (λ (y : ProgramGraphRun). record { answer = c.send_on-said.result.answer; message = c.send_on-said.result.message; run = y })
     c.load.ensures
-    ∙ sent_back s.args.t.now s.args.run k.store.new.0 s.requires.0 s.requires.1 k.store.ensures s.args.action
-    s.args.posts.now _ s.args.word _ x.send_on-said.ensures
+    ∙ sent_back c.args.t.now c.args.run c.store.new.r c.requires.0 c.requires.1 c.store.ensures c.args.action
+    c.args.posts.now _ c.args.word _ c.send_on-said.ensures

@@ -1,7 +1,5 @@
-use Prim.Native.Nat.{◌-◌}
 use mathlib.Core.Path.{refl, ap, ◌∙◌}
 use native.Mathlib.Omega.{arith}
-use borrow.Author.Rules.{rules}
 use Rattle.program_graph.specs.declared.record.ProgramGraphRun.{ProgramGraphRun}
 use Rattle.program_graph.proofs.LeaveLaws.{variables_same}
 use Rattle.program_graph.proofs.ValueLaws.{stored_run, waited_small, waited_back}
@@ -9,35 +7,26 @@ use Rattle.program_graph.proofs.inner.by_value.wait.Goals as goal
 
 pub store-requires : goal.store-requires
 store-requires c =
-    let s = c.before.before in
-    (refl, omega (arith, variables_same s.args.t.now s.args.run s.requires.1, s.requires.0.counts.variables))
+    (refl, omega (arith, variables_same c.args.t.now c.args.run c.requires.1, c.requires.0.counts.variables))
 
 pub wait_on-answer-requires : goal.wait_on-answer-requires
 wait_on-answer-requires c =
-    let k = c.before.before in
-    let s = k.before.before.before in
-    (s.requires.0, stored_run s.args.t.now s.args.run k.store.new.0 s.requires.0 s.requires.1 k.store.ensures)
+    (c.requires.0, stored_run c.args.t.now c.args.run c.store.new.r c.requires.0 c.requires.1 c.store.ensures)
 
 pub load-requires : goal.load-requires
 load-requires c =
-    let x = c.before.before in
-    let k = x.before.before.before in
-    let s = k.before.before.before in
-    let did = x.wait_on-answer.ensures in
+    let did = c.wait_on-answer.ensures in
     let small =
-    waited_small s.args.t.now s.args.run k.store.new.0 s.requires.0 s.requires.1 k.store.ensures _
-    s.args.delta _ did in (
+    waited_small c.args.t.now c.args.run c.store.new.r c.requires.0 c.requires.1 c.store.ensures _
+    c.args.delta _ did in (
       did.1.words,
-      omega (arith, variables_same s.args.t.now s.args.run s.requires.1, s.requires.0.counts.variables),
+      omega (arith, variables_same c.args.t.now c.args.run c.requires.1, c.requires.0.counts.variables),
       small.0,
       small.1,
     )
 
 pub returns : goal.returns
 returns c =
-    let x = c.before.before.before in
-    let k = x.before.before.before in
-    let s = k.before.before.before in
-    ap (λ (y : ProgramGraphRun). record { answer = x.wait_on-answer.result; run = y }) c.load.ensures
-    ∙ waited_back s.args.t.now s.args.run k.store.new.0 s.requires.0 s.requires.1 k.store.ensures _ s.args.delta _
-    x.wait_on-answer.ensures
+    ap (λ (y : ProgramGraphRun). record { answer = c.wait_on-answer.result; run = y }) c.load.ensures
+    ∙ waited_back c.args.t.now c.args.run c.store.new.r c.requires.0 c.requires.1 c.store.ensures _ c.args.delta _
+    c.wait_on-answer.ensures

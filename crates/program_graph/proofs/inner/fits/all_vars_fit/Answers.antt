@@ -1,7 +1,6 @@
 use Prim.Native.Nat.{ℕ}
-use mathlib.Core.Path.{◌≡◌, ap, ◌∙◌}
+use mathlib.Core.Path.{ap, ◌∙◌}
 use native.Mathlib.Omega.{arith}
-use borrow.Author.Rules.{rules}
 use Rattle.laws.specs.Below.{all_below}
 use Rattle.graph_tables.specs.RunWords.{vars_in}
 use Rattle.program_graph.specs.Fits.{var_words_fit}
@@ -10,12 +9,9 @@ use Rattle.program_graph.proofs.inner.fits.all_vars_fit.Goals as goal
 
 pub vars_words_fit-requires : goal.vars_words_fit-requires
 vars_words_fit-requires c =
-    let s = c.before.before.before.before in
-    (s.requires.0, vars_length s.args.r.now s.requires.1, omega (arith, c.variable_count.ensures, s.requires.0.counts.variables))
+    (c.requires.0, vars_length c.args.r.now c.requires.1, omega (arith, c.variable_count.ensures, c.requires.0.counts.variables))
 
 pub returns : goal.returns
 returns c =
-    let n = c.before in
-    let s = n.before.before.before.before in
     c.vars_words_fit.ensures
-    ∙ ap (λ (k : ℕ). all_below k (var_words_fit s.args.t.now (vars_in s.args.r.now))) n.variable_count.ensures
+    ∙ ap (λ (k : ℕ). all_below k (var_words_fit c.args.t.now (vars_in c.args.r.now))) c.variable_count.ensures

@@ -1,6 +1,5 @@
 use mathlib.Core.Path.{ap}
 use lib.Dec.{eqb}
-use borrow.Author.Rules.{rules}
 use borrow.Author.Tests.{eq-eqb, ne_eqb}
 use Rattle.laws.proofs.BelowLaws.{and_yes, and_no}
 use Rattle.program_graph.specs.Running.{counts_same}
@@ -13,18 +12,11 @@ returns-then-run-process_count c = and_no _ (ne_eqb _ _ (rw c.process_count.ensu
 pub returns-then-run-variable_count : goal.returns-then-run-variable_count
 unfolding counts_same
 returns-then-run-variable_count c =
-    let v = c.before.before in
-    let a = v.before in
-    and_yes (eq-eqb _ _ (rw a.process_count.ensures at a.if-run-process_count.false))
-    (and_no _ (ne_eqb _ _ (rw v.variable_count.ensures at c.if-run-variable_count.true)))
+    and_yes (eq-eqb _ _ (rw c.process_count.ensures at c.if-run-process_count.false))
+    (and_no _ (ne_eqb _ _ (rw c.variable_count.ensures at c.if-run-variable_count.true)))
 
 pub returns : goal.returns
 unfolding counts_same
 returns c =
-    let n = c.before in
-    let b = n.before in
-    let v = b.before.before in
-    let a = v.before in
-    let s = a.before.before.before.before in
-    and_yes (eq-eqb _ _ (rw a.process_count.ensures at a.if-run-process_count.false))
-    (and_yes (eq-eqb _ _ (rw v.variable_count.ensures at b.if-run-variable_count.false)) (ap (eqb s.args.run.clocks) n.clock_count.ensures))
+    and_yes (eq-eqb _ _ (rw c.process_count.ensures at c.if-run-process_count.false))
+    (and_yes (eq-eqb _ _ (rw c.variable_count.ensures at c.if-run-variable_count.false)) (ap (eqb c.args.run.clocks) c.clock_count.ensures))

@@ -1,12 +1,8 @@
 use Prim.Native.Nat.{◌≤◌, ◌-◌}
-use mathlib.Core.Path.{◌≡◌, sym}
+use mathlib.Core.Path.{◌≡◌}
 use mathlib.Core.Bool.{true}
-use native.Mathlib.Omega.{arith}
-use borrow.Author.Rules.{rules}
 use Rattle.laws.specs.Below.{all_below}
-use Rattle.laws.proofs.BelowLaws.{all_none, all_more, all_fails, all_done}
 use Rattle.program_graph.specs.Running.{place_known}
-use Rattle.program_graph.proofs.FitLaws.{place_known_lem, place_unknown}
 use Rattle.program_graph.proofs.inner.fits.places_known.Given as goal
 
 abbrev pub invariant-loop-p : goal.invariant-loop-p

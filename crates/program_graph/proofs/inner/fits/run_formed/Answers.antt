@@ -3,7 +3,6 @@ use mathlib.Core.Path.{◌≡◌}
 use mathlib.Core.Bool.{true}
 use mathlib.Core.List.{List}
 use native.Mathlib.Omega.{arith}
-use borrow.Author.Rules.{rules}
 use borrow.Author.Tests.{eqb-true}
 use Rattle.laws.proofs.BelowLaws.{and_yes, and_no, and_first, and_rest}
 use Rattle.laws.proofs.Tests.{held, failed}
@@ -26,30 +25,21 @@ returns-then-not-counts_same c = and_no _ (failed c.counts_same.ensures c.if-not
 
 pub places_known-requires : goal.places_known-requires
 places_known-requires c =
-    let a = c.before in
-    let s = a.before.before.before in
-    let same = held a.counts_same.ensures a.if-not-counts_same.false-raw in
-    (s.requires, omega (arith, s.requires.counts.processes, processes_same _ _ same))
+    let same = held c.counts_same.ensures c.if-not-counts_same.false-raw in
+    (c.requires, omega (arith, c.requires.counts.processes, processes_same _ _ same))
 
 pub returns-then-not-places_known : goal.returns-then-not-places_known
 unfolding run_formed
 returns-then-not-places_known c =
-    let p = c.before in
-    let a = p.before.before in
-    and_yes (held a.counts_same.ensures a.if-not-counts_same.false-raw) (and_no _ (failed p.places_known.ensures c.if-not-places_known.true-raw))
+    and_yes (held c.counts_same.ensures c.if-not-counts_same.false-raw) (and_no _ (failed c.places_known.ensures c.if-not-places_known.true-raw))
 
 pub vars_fit-requires : goal.vars_fit-requires
 vars_fit-requires c =
-    let a = c.before.before.before.before in
-    let s = a.before.before.before in
-    let same = held a.counts_same.ensures a.if-not-counts_same.false-raw in
-    (s.requires, omega (arith, s.requires.counts.variables, variables_same _ _ same))
+    let same = held c.counts_same.ensures c.if-not-counts_same.false-raw in
+    (c.requires, omega (arith, c.requires.counts.variables, variables_same _ _ same))
 
 pub returns : goal.returns
 unfolding run_formed
 returns c =
-    let b = c.before.before in
-    let p = b.before in
-    let a = p.before.before in
-    and_yes (held a.counts_same.ensures a.if-not-counts_same.false-raw)
-    (and_yes (held p.places_known.ensures b.if-not-places_known.false-raw) c.vars_fit.ensures)
+    and_yes (held c.counts_same.ensures c.if-not-counts_same.false-raw)
+    (and_yes (held c.places_known.ensures c.if-not-places_known.false-raw) c.vars_fit.ensures)

@@ -1,4 +1,3 @@
-use borrow.Author.Rules.{rules}
 use Rattle.laws.proofs.BelowLaws.{and_yes, and_no}
 use Rattle.laws.proofs.Tests.{held, failed}
 use Rattle.program_graph.specs.Fits.{run_words_fit}
@@ -11,28 +10,17 @@ returns-then-not-word_counts_same c = and_no _ (failed c.word_counts_same.ensure
 pub returns-then-not-all_places_known : goal.returns-then-not-all_places_known
 unfolding run_words_fit
 returns-then-not-all_places_known c =
-    let p = c.before in
-    let a = p.before in
-    and_yes (held a.word_counts_same.ensures a.if-not-word_counts_same.false-raw) (and_no _ (failed p.all_places_known.ensures c.if-not-all_places_known.true-raw))
+    and_yes (held c.word_counts_same.ensures c.if-not-word_counts_same.false-raw) (and_no _ (failed c.all_places_known.ensures c.if-not-all_places_known.true-raw))
 
 pub returns-then-not-all_vars_fit : goal.returns-then-not-all_vars_fit
 unfolding run_words_fit
 returns-then-not-all_vars_fit c =
-    let v = c.before in
-    let b = v.before in
-    let p = b.before in
-    let a = p.before in
-    and_yes (held a.word_counts_same.ensures a.if-not-word_counts_same.false-raw)
-    (and_yes (held p.all_places_known.ensures b.if-not-all_places_known.false-raw) (and_no _ (failed v.all_vars_fit.ensures c.if-not-all_vars_fit.true-raw)))
+    and_yes (held c.word_counts_same.ensures c.if-not-word_counts_same.false-raw)
+    (and_yes (held c.all_places_known.ensures c.if-not-all_places_known.false-raw) (and_no _ (failed c.all_vars_fit.ensures c.if-not-all_vars_fit.true-raw)))
 
 pub returns : goal.returns
 unfolding run_words_fit
 returns c =
-    let d = c.before in
-    let v = d.before in
-    let b = v.before in
-    let p = b.before in
-    let a = p.before in
-    and_yes (held a.word_counts_same.ensures a.if-not-word_counts_same.false-raw)
-    (and_yes (held p.all_places_known.ensures b.if-not-all_places_known.false-raw)
-    (and_yes (held v.all_vars_fit.ensures d.if-not-all_vars_fit.false-raw) c.all_clocks_fit.ensures))
+    and_yes (held c.word_counts_same.ensures c.if-not-word_counts_same.false-raw)
+    (and_yes (held c.all_places_known.ensures c.if-not-all_places_known.false-raw)
+    (and_yes (held c.all_vars_fit.ensures c.if-not-all_vars_fit.false-raw) c.all_clocks_fit.ensures))

@@ -1,5 +1,3 @@
-use mathlib.Core.Path.{◌∙◌}
-use borrow.Author.Rules.{rules}
 use borrow.Author.Tests.{eq-eqb, ne_eqb}
 use Rattle.laws.proofs.BelowLaws.{and_yes, and_no}
 use Rattle.program_graph.specs.Fits.{var_words_fit}
@@ -12,5 +10,4 @@ returns-then-kind-kind_at c = and_no _ (ne_eqb _ _ (rw c.kind_at.ensures at c.if
 pub returns : goal.returns
 unfolding var_words_fit
 returns c =
-    let b = c.before.before in
-    and_yes (eq-eqb _ _ (rw b.kind_at.ensures at b.if-kind-kind_at.false)) c.is_value.ensures
+    and_yes (eq-eqb _ _ (rw c.kind_at.ensures at c.if-kind-kind_at.false)) c.is_value.ensures

@@ -1,6 +1,5 @@
 use mathlib.Core.Path.{ap}
 use lib.Dec.{eqb}
-use borrow.Author.Rules.{rules}
 use borrow.Author.Tests.{eq-eqb, ne_eqb}
 use Rattle.laws.proofs.BelowLaws.{and_yes, and_no}
 use Rattle.graph_tables.specs.RunWords.{run_clocks}
@@ -14,17 +13,11 @@ returns-then-r-process_count c = and_no _ (ne_eqb _ _ (rw c.process_count.ensure
 pub returns-then-r-variable_count : goal.returns-then-r-variable_count
 unfolding counts_same
 returns-then-r-variable_count c =
-    let v = c.before in
-    let a = v.before.before in
-    and_yes (eq-eqb _ _ (rw a.process_count.ensures at a.if-r-process_count.false))
-    (and_no _ (ne_eqb _ _ (rw v.variable_count.ensures at c.if-r-variable_count.true)))
+    and_yes (eq-eqb _ _ (rw c.process_count.ensures at c.if-r-process_count.false))
+    (and_no _ (ne_eqb _ _ (rw c.variable_count.ensures at c.if-r-variable_count.true)))
 
 pub returns : goal.returns
 unfolding counts_same
 returns c =
-    let b = c.before.before in
-    let v = b.before in
-    let a = v.before.before in
-    let s = a.before.before.before.before.before in
-    and_yes (eq-eqb _ _ (rw a.process_count.ensures at a.if-r-process_count.false))
-    (and_yes (eq-eqb _ _ (rw v.variable_count.ensures at b.if-r-variable_count.false)) (ap (eqb (run_clocks s.args.r.now)) c.clock_count.ensures))
+    and_yes (eq-eqb _ _ (rw c.process_count.ensures at c.if-r-process_count.false))
+    (and_yes (eq-eqb _ _ (rw c.variable_count.ensures at c.if-r-variable_count.false)) (ap (eqb (run_clocks c.args.r.now)) c.clock_count.ensures))

@@ -1,11 +1,7 @@
-use Prim.Native.Nat.{◌≤◌, ◌-◌}
-use mathlib.Core.Path.{◌≡◌, sym}
-use mathlib.Core.Bool.{true}
+use mathlib.Core.Path.{sym}
 use native.Mathlib.Omega.{arith}
 use borrow.Author.Rules.{rules}
-use Rattle.laws.specs.Below.{all_below}
 use Rattle.laws.proofs.BelowLaws.{all_none, all_more, all_fails, all_done}
-use Rattle.program_graph.specs.Running.{place_known}
 use Rattle.program_graph.proofs.FitLaws.{place_known_lem, place_unknown}
 use Rattle.program_graph.proofs.inner.fits.words_known.Goals as goal
 
@@ -14,13 +10,11 @@ loop-p-init c = (search rules, all_none _)
 
 pub returns-then-locations-places : goal.returns-then-locations-places
 returns-then-locations-places c =
-    let l = c.before.before.before in
-    sym (all_fails _ _ l.loop-p.p (omega arith) (place_unknown _ _ _ (omega (arith, l.location_count-locations.ensures))))
+    sym (all_fails _ _ c.loop-p.p (omega arith) (place_unknown _ _ _ (omega (arith, c.location_count-locations.ensures))))
 
 pub loop-p-preserved : goal.loop-p-preserved
 loop-p-preserved c =
-    let l = c.before.before.before in
-    (omega arith, all_more _ _ l.loop-p.invariant.1 (place_known_lem _ _ _ (omega (arith, l.location_count-locations.ensures))))
+    (omega arith, all_more _ _ c.loop-p.invariant.1 (place_known_lem _ _ _ (omega (arith, c.location_count-locations.ensures))))
 
 pub returns : goal.returns
 returns c = sym (all_done _ _ c.loop-p.p (omega arith) (omega arith) c.loop-p.invariant.1)

@@ -1,5 +1,4 @@
-use Prim.Native.Nat.{◌≤◌, ◌-◌}
-use mathlib.Core.Path.{◌≡◌, refl, ap, ◌∙◌}
+use mathlib.Core.Path.{refl, ap, ◌∙◌}
 use native.Mathlib.Omega.{arith}
 use native.Mathlib.Numerals.{add-one}
 use borrow.Author.Rules.{rules}
@@ -11,12 +10,11 @@ unfolding start_places
 loop-p-init c = (search rules, refl)
 
 pub place_at-requires : goal.place_at-requires
-place_at-requires c = let s = c.before.before.before in (s.requires.0.words, omega (arith, s.requires.0.counts.processes))
+place_at-requires c = (c.requires.0.words, omega (arith, c.requires.0.counts.processes))
 
 pub overflow_cast-places : goal.overflow_cast-places
 overflow_cast-places c =
-    let s = c.before.before.before.before in
-    omega (arith, s.requires.0.counts.locations, (s.requires.0.process c.loop-p.p (omega arith)).place)
+    omega (arith, c.requires.0.counts.locations, (c.requires.0.process c.loop-p.p (omega arith)).place)
 
 pub bounds-places-p : goal.bounds-places-p
 bounds-places-p c = omega (arith, c.requires.0.counts.processes)

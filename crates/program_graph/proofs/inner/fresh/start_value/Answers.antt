@@ -12,17 +12,14 @@ use Rattle.program_graph.proofs.inner.fresh.start_value.Goals as goal
 
 pub returns-then-kind_at-eq0 : goal.returns-then-kind_at-eq0
 returns-then-kind_at-eq0 c =
-    let k = c.before in
-    rw (eq-eqb _ _ (rw k.kind_at.ensures at c.if-kind_at-eq0.true)) (ap (λ (n : ℕ). Boolean (eqb n 1)) k.value_at-value.ensures)
+    rw (eq-eqb _ _ (rw c.kind_at.ensures at c.if-kind_at-eq0.true)) (ap (λ (n : ℕ). Boolean (eqb n 1)) c.value_at-value.ensures)
 
 pub overflow_cast-value : goal.overflow_cast-value
-overflow_cast-value c = let s = c.before.before.before.before in omega (arith, (s.requires.0.variable _ s.requires.1).fits)
+overflow_cast-value c = omega (arith, (c.requires.0.variable _ c.requires.1).fits)
 
 pub returns : goal.returns
 returns c =
-    let b = c.before in
-    let k = b.before in
     let n = c.from_bits.result in
     let e : to_z w32 (of_z w32 n) ≡ n = search rules in
-    rw (ne_eqb _ _ (rw k.kind_at.ensures at b.if-kind_at-eq0.false)) (ap Integer
-    (e ∙ c.from_bits.ensures ∙ ap from_bits k.value_at-value.ensures))
+    rw (ne_eqb _ _ (rw c.kind_at.ensures at c.if-kind_at-eq0.false)) (ap Integer
+    (e ∙ c.from_bits.ensures ∙ ap from_bits c.value_at-value.ensures))

@@ -1,4 +1,3 @@
-use borrow.Author.Rules.{rules}
 use Rattle.program_graph.proofs.inner.listing.entry_or_end.Goals as goal
 
 pub returns-in-Found : goal.returns-in-Found

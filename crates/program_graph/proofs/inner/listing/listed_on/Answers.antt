@@ -13,29 +13,30 @@ use Rattle.program_graph.proofs.inner.listing.listed_on.Goals as goal
 
 pub overflow_add-n : goal.overflow_add-n
 overflow_add-n c =
-    let s = c.before.before.before.before.before in
-    let few = few_places s.args.t.now s.args.r.now s.requires.0 s.requires.1 _ refl in
+    let few = few_places c.args.t.now c.args.r.now c.requires.0 c.requires.1 _ refl in
     omega (arith, few)
+
+pub slice_bounds-seek_entry-end-3 : goal.slice_bounds-seek_entry-end-3
+slice_bounds-seek_entry-end-3 c =
+    let few = few_places c.args.t.now c.args.r.now c.requires.0 c.requires.1 _ refl in
+    search rules
 
 pub seek_entry-requires : goal.seek_entry-requires
 seek_entry-requires c =
-    let s = c.before.before.before.before.before.before in
-    let n = run_processes s.args.r.now in
+    let n = run_processes c.args.r.now in
     let e : 3 + n - 3 ≡ n = omega arith in (
-      s.requires.0,
-      vars_length s.args.r.now s.requires.1.words,
-      times_length s.args.r.now s.requires.1.words,
-      rw e (lent_known s.args.t.now s.args.r.now s.requires.0 s.requires.1 n refl),
+      c.requires.0,
+      vars_length c.args.r.now c.requires.1.words,
+      times_length c.args.r.now c.requires.1.words,
+      rw e (lent_known c.args.t.now c.args.r.now c.requires.0 c.requires.1 n refl),
     )
 
 pub returns : goal.returns
 returns c =
-    let k = c.before in
-    let s = k.before.before.before.before.before.before.before in
-    let n = run_processes s.args.r.now in
+    let n = run_processes c.args.r.now in
     let e : 3 + n - 3 ≡ n = omega arith in
-    let given = rw e at k.seek_entry.ensures in
+    let given = rw e at c.seek_entry.ensures in
     c.entry_or_end.ensures
     ∙ ap entry_or_end
     (given
-    ∙ ap (λ (l : List Entry). seek l s.args.k) (listing_lent s.args.t.now s.args.r.now s.requires.0 s.requires.1 n refl _ _))
+    ∙ ap (λ (l : List Entry). seek l c.args.k) (listing_lent c.args.t.now c.args.r.now c.requires.0 c.requires.1 n refl _ _))

@@ -1,5 +1,4 @@
-use Prim.Native.Nat.{◌≤◌, ◌-◌}
-use mathlib.Core.Path.{◌≡◌, refl, ap, ◌∙◌}
+use mathlib.Core.Path.{refl, ap, ◌∙◌}
 use native.Mathlib.Omega.{arith}
 use native.Mathlib.Numerals.{add-one}
 use borrow.Author.Rules.{rules}
@@ -13,8 +12,7 @@ loop-p-init c = (search rules, refl)
 
 pub overflow_cast-places : goal.overflow_cast-places
 overflow_cast-places c =
-    let l = c.before.before in
-    omega (arith, l.requires.2 l.loop-p.p c.loop-p-test.true)
+    omega (arith, c.requires.2 c.loop-p.p c.loop-p-test.true)
 
 pub loop-p-preserved : goal.loop-p-preserved
 unfolding numbers_below

@@ -1,8 +1,5 @@
 use Prim.Native.Nat.{◌≤◌, ◌-◌}
-use mathlib.Core.Path.{◌≡◌, refl, ap, ◌∙◌}
-use native.Mathlib.Omega.{arith}
-use native.Mathlib.Numerals.{add-one}
-use borrow.Author.Rules.{rules}
+use mathlib.Core.Path.{◌≡◌}
 use Rattle.graph_tables.specs.Sizes.{process_room}
 use Rattle.program_graph.specs.Used.{numbers_below}
 use Rattle.program_graph.proofs.inner.used.used_places.Given as goal

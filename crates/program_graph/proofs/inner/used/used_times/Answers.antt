@@ -1,5 +1,4 @@
-use Prim.Native.Nat.{◌≤◌, ◌-◌}
-use mathlib.Core.Path.{◌≡◌, refl, ap, ◌∙◌}
+use mathlib.Core.Path.{refl, ap, ◌∙◌}
 use native.Mathlib.Omega.{arith}
 use native.Mathlib.Numerals.{add-one}
 use borrow.Author.Rules.{rules}
@@ -13,8 +12,7 @@ loop-c-init c = (search rules, refl)
 
 pub overflow_cast-times : goal.overflow_cast-times
 overflow_cast-times c =
-    let l = c.before.before in
-    omega (arith, l.requires.2 l.loop-c.c c.loop-c-test.true)
+    omega (arith, c.requires.2 c.loop-c.c c.loop-c-test.true)
 
 pub loop-c-preserved : goal.loop-c-preserved
 unfolding numbers_below

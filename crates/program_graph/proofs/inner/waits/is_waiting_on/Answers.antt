@@ -14,26 +14,27 @@ returns-then-not-can_wait_on c = and_no _ (failed c.can_wait_on.ensures c.if-not
 
 pub overflow_add-n : goal.overflow_add-n
 overflow_add-n c =
-    let s = c.before.before.before.before.before.before in
-    let few = few_places s.args.t.now s.args.r.now s.requires.0 s.requires.1 _ refl in
+    let few = few_places c.args.t.now c.args.r.now c.requires.0 c.requires.1 _ refl in
     omega (arith, few)
+
+pub slice_bounds-waiting-end-2 : goal.slice_bounds-waiting-end-2
+slice_bounds-waiting-end-2 c =
+    let few = few_places c.args.t.now c.args.r.now c.requires.0 c.requires.1 _ refl in
+    search rules
 
 pub waiting-requires : goal.waiting-requires
 waiting-requires c =
-    let s = c.before.before.before.before.before.before.before in
-    let n = run_processes s.args.r.now in
+    let n = run_processes c.args.r.now in
     let e : 3 + n - 3 ≡ n = omega arith in (
-      s.requires.0,
-      times_length s.args.r.now s.requires.1.words,
-      rw e (lent_known s.args.t.now s.args.r.now s.requires.0 s.requires.1 n refl),
+      c.requires.0,
+      times_length c.args.r.now c.requires.1.words,
+      rw e (lent_known c.args.t.now c.args.r.now c.requires.0 c.requires.1 n refl),
     )
 
 pub returns : goal.returns
 returns c =
-    let l = c.before.before.before.before in
-    let s = l.before.before.before.before in
-    let n = run_processes s.args.r.now in
+    let n = run_processes c.args.r.now in
     let e : 3 + n - 3 ≡ n = omega arith in
     let given = rw e at c.waiting.ensures in
-    and_yes (held l.can_wait_on.ensures l.if-not-can_wait_on.false-raw)
-    (given ∙ waiting_lent s.args.t.now s.args.r.now s.requires.0 s.requires.1 n refl _)
+    and_yes (held c.can_wait_on.ensures c.if-not-can_wait_on.false-raw)
+    (given ∙ waiting_lent c.args.t.now c.args.r.now c.requires.0 c.requires.1 n refl _)

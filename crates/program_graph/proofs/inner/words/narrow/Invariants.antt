@@ -1,9 +1,7 @@
 use Prim.Native.Nat.{◌-◌, ◌≤◌}
-use mathlib.Core.Path.{◌≡◌, refl}
-use native.Mathlib.Omega.{arith}
-use lib.ListN.{length, length-set}
-use Rattle.laws.proofs.Copies.{Filled, filled_none, filled_more, filled_all}
-use borrow.Author.Rules.{rules}
+use mathlib.Core.Path.{◌≡◌}
+use lib.ListN.{length}
+use Rattle.laws.proofs.Copies.{Filled}
 use Rattle.program_graph.proofs.inner.words.narrow.Given as goal
 
 abbrev pub invariant-loop-i : goal.invariant-loop-i

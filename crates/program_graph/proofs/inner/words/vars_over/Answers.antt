@@ -1,7 +1,5 @@
-use Prim.Native.Nat.{◌-◌, ◌≤◌}
-use mathlib.Core.Path.{◌≡◌, refl, ap, ◌∙◌}
+use mathlib.Core.Path.{refl, ap, ◌∙◌}
 use native.Mathlib.Omega.{arith}
-use Rattle.grammar.specs.Slots.{slots_of}
 use Rattle.program_graph.specs.Inner.{over_below}
 use native.Mathlib.Numerals.{add-one}
 use Rattle.grammar.proofs.SlotLaws.{slot_at}
@@ -15,9 +13,7 @@ loop-v-init c = (search rules, refl)
 pub loop-v-preserved : goal.loop-v-preserved
 unfolding over_below
 loop-v-preserved c =
-    let l = c.before.before.before.before in
-    let s = l.before.before in
-    (omega arith, rw add-one (cc (l.loop-v.invariant.1, slot_at s.args.ws.now l.loop-v.v (omega (arith, s.requires)), c.value_of-value.ensures)))
+    (omega arith, rw add-one (cc (c.loop-v.invariant.1, slot_at c.args.ws.now c.loop-v.v (omega (arith, c.requires)), c.value_of-value.ensures)))
 
 pub returns : goal.returns
 returns c = c.loop-v.invariant.1 ∙ ap (over_below _ _) (omega arith)

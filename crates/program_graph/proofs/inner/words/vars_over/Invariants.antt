@@ -1,11 +1,7 @@
 use Prim.Native.Nat.{◌-◌, ◌≤◌}
-use mathlib.Core.Path.{◌≡◌, refl, ap, ◌∙◌}
-use native.Mathlib.Omega.{arith}
+use mathlib.Core.Path.{◌≡◌}
 use Rattle.grammar.specs.Slots.{slots_of}
 use Rattle.program_graph.specs.Inner.{over_below}
-use native.Mathlib.Numerals.{add-one}
-use Rattle.grammar.proofs.SlotLaws.{slot_at}
-use borrow.Author.Rules.{rules}
 use Rattle.program_graph.proofs.inner.words.vars_over.Given as goal
 
 abbrev pub invariant-loop-v : goal.invariant-loop-v

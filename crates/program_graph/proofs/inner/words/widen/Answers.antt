@@ -1,9 +1,9 @@
-use Prim.Native.Nat.{ℕ, ◌-◌, ◌≤◌, ◌<◌}
-use mathlib.Core.Path.{◌≡◌, refl}
+use Prim.Native.Nat.{ℕ, ◌<◌}
+use mathlib.Core.Path.{refl}
 use native.Mathlib.Omega.{arith}
 use Rattle.graph_tables.specs.Sizes.{word32}
-use lib.ListN.{length, get_or, length-set}
-use Rattle.laws.proofs.Copies.{Filled, filled_none, filled_more, filled_all, one_more}
+use lib.ListN.{get_or, length-set}
+use Rattle.laws.proofs.Copies.{filled_none, filled_more, filled_all, one_more}
 use Rattle.program_graph.proofs.StoredLaws.{small_all}
 use borrow.Author.Rules.{rules}
 use Rattle.program_graph.proofs.inner.words.widen.Goals as goal
@@ -12,14 +12,13 @@ pub loop-i-init : goal.loop-i-init
 loop-i-init c = (search rules, search rules, filled_none 0 _ _, λ j l. absurd (omega arith))
 
 pub loop-i-preserved : goal.loop-i-preserved
-loop-i-preserved c =
-    let l = c.before.before in (
-      omega arith,
-      simp length-set l.loop-i.invariant.1,
-      filled_more 0 _ _ _ _ l.loop-i.invariant.2 (omega arith) refl,
-      one_more (λ (j : ℕ). get_or l.args.from.now j 0 < word32) l.loop-i.i l.loop-i.invariant.3
-          (omega (arith, c.shared_slice_known-1.given l.loop-i.i)),
-    )
+loop-i-preserved c = (
+  omega arith,
+  simp length-set c.loop-i.invariant.1,
+  filled_more 0 _ _ _ _ c.loop-i.invariant.2 (omega arith) refl,
+  one_more (λ (j : ℕ). get_or c.args.from.now j 0 < word32) c.loop-i.i c.loop-i.invariant.3
+      (omega (arith, c.shared_slice_known-1.given c.loop-i.i)),
+)
 
 pub returns : goal.returns
 returns c =

@@ -1,11 +1,8 @@
 use Prim.Native.Nat.{ℕ, ◌-◌, ◌≤◌, ◌<◌}
-use mathlib.Core.Path.{◌≡◌, refl}
-use native.Mathlib.Omega.{arith}
+use mathlib.Core.Path.{◌≡◌}
 use Rattle.graph_tables.specs.Sizes.{word32}
-use lib.ListN.{length, get_or, length-set}
-use Rattle.laws.proofs.Copies.{Filled, filled_none, filled_more, filled_all, one_more}
-use Rattle.program_graph.proofs.StoredLaws.{small_all}
-use borrow.Author.Rules.{rules}
+use lib.ListN.{length, get_or}
+use Rattle.laws.proofs.Copies.{Filled}
 use Rattle.program_graph.proofs.inner.words.widen.Given as goal
 
 abbrev pub invariant-loop-i : goal.invariant-loop-i

@@ -1,5 +1,4 @@
 use mathlib.Core.Path.{refl}
-use borrow.Author.Rules.{rules}
 use Rattle.laws.proofs.Ladder.{passed, stopped}
 use Rattle.laws.proofs.Tests.{held, failed}
 use Rattle.program_graph.specs.Running.{states_of}
@@ -11,4 +10,4 @@ returns-then-not-fits_table c = stopped _ _ (failed c.fits_table.ensures c.if-no
 
 pub returns : goal.returns
 unfolding states_of
-returns c = let e = c.before in passed _ (held e.fits_table.ensures e.if-not-fits_table.false-raw) refl
+returns c = passed _ (held c.fits_table.ensures c.if-not-fits_table.false-raw) refl

@@ -1,5 +1,4 @@
 use mathlib.Core.Path.{ap}
-use borrow.Author.Rules.{rules}
 use Rattle.laws.proofs.Ladder.{passed, stopped}
 use Rattle.laws.proofs.Tests.{held, failed}
 use Rattle.program_graph.specs.Running.{is_waiting_of}
@@ -16,4 +15,4 @@ is_waiting-requires c = fitting _ _ (held c.fits_table.ensures c.if-not-fits_tab
 
 pub returns : goal.returns
 unfolding is_waiting_of
-returns c = let e = c.before in passed _ (held e.fits_table.ensures e.if-not-fits_table.false-raw) (ap Held.Is c.is_waiting.ensures)
+returns c = passed _ (held c.fits_table.ensures c.if-not-fits_table.false-raw) (ap Held.Is c.is_waiting.ensures)

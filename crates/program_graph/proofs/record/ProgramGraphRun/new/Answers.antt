@@ -1,6 +1,5 @@
 use mathlib.Core.Path.{refl}
 use mathlib.Core.Bool.{false}
-use borrow.Author.Rules.{rules}
 use Rattle.laws.proofs.Tests.{held, failed}
 use Rattle.laws.proofs.Ladder.{passed, stopped}
 use Rattle.graph_tables.proofs.SoundLaws.{sound}
@@ -10,8 +9,7 @@ use Rattle.program_graph.proofs.record.ProgramGraphRun.new.Goals as goal
 pub returns-then-not-well_formed : goal.returns-then-not-well_formed
 unfolding new_run_of
 returns-then-not-well_formed c =
-    let a = c.before in
-    rw c.no_run.ensures (stopped _ _ (failed a.well_formed-2.ensures a.if-not-well_formed.true-raw))
+    rw c.no_run.ensures (stopped _ _ (failed c.well_formed-2.ensures c.if-not-well_formed.true-raw))
 
 pub fresh-requires : goal.fresh-requires
 fresh-requires c = sound _ false (held c.well_formed-2.ensures c.if-not-well_formed.false-raw)
@@ -19,5 +17,4 @@ fresh-requires c = sound _ false (held c.well_formed-2.ensures c.if-not-well_for
 pub returns : goal.returns
 unfolding new_run_of
 returns c =
-    let a = c.before in
-    rw c.fresh.ensures (passed _ (held a.well_formed-2.ensures a.if-not-well_formed.false-raw) refl)
+    rw c.fresh.ensures (passed _ (held c.well_formed-2.ensures c.if-not-well_formed.false-raw) refl)

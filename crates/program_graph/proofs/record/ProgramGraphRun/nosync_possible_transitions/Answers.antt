@@ -1,4 +1,3 @@
-use borrow.Author.Rules.{rules}
 use Rattle.laws.proofs.Ladder.{passed, stopped}
 use Rattle.laws.proofs.Tests.{held, failed}
 use borrow.Author.Tests.{eq-eqb, ne_eqb}
@@ -15,16 +14,13 @@ returns-then-not-fits_table c = stopped _ _ (failed c.fits_table.ensures c.if-no
 pub returns-then-self-ne1 : goal.returns-then-self-ne1
 unfolding nosync_of
 returns-then-self-ne1 c =
-    let e = c.before.before in
-    passed (Listed.Refused (refusal 32)) (held e.fits_table.ensures e.if-not-fits_table.false-raw) (stopped _ _ (ne_eqb _ _ c.if-self-ne1.true))
+    passed (Listed.Refused (refusal 32)) (held c.fits_table.ensures c.if-not-fits_table.false-raw) (stopped _ _ (ne_eqb _ _ c.if-self-ne1.true))
 
 pub entry-requires : goal.entry-requires
-entry-requires c = let e = c.before.before in fitting _ _ (held e.fits_table.ensures e.if-not-fits_table.false-raw)
+entry-requires c = fitting _ _ (held c.fits_table.ensures c.if-not-fits_table.false-raw)
 
 pub returns : goal.returns
 unfolding nosync_of
 returns c =
-    let f = c.before in
-    let e = f.before.before in
-    passed (Listed.Refused (refusal 32)) (held e.fits_table.ensures e.if-not-fits_table.false-raw)
-    (passed (Listed.Refused (refusal 16)) (eq-eqb _ _ f.if-self-ne1.false) c.entry.ensures)
+    passed (Listed.Refused (refusal 32)) (held c.fits_table.ensures c.if-not-fits_table.false-raw)
+    (passed (Listed.Refused (refusal 16)) (eq-eqb _ _ c.if-self-ne1.false) c.entry.ensures)

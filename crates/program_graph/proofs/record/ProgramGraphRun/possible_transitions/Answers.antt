@@ -1,4 +1,3 @@
-use borrow.Author.Rules.{rules}
 use Rattle.laws.proofs.Ladder.{passed, stopped}
 use Rattle.laws.proofs.Tests.{held, failed}
 use Rattle.program_graph.specs.Transitions.{possible_of}
@@ -14,4 +13,4 @@ entry-requires c = fitting _ _ (held c.fits_table.ensures c.if-not-fits_table.fa
 
 pub returns : goal.returns
 unfolding possible_of
-returns c = let e = c.before in passed _ (held e.fits_table.ensures e.if-not-fits_table.false-raw) c.entry.ensures
+returns c = passed _ (held c.fits_table.ensures c.if-not-fits_table.false-raw) c.entry.ensures

@@ -1,4 +1,3 @@
-use borrow.Author.Rules.{rules}
 use Rattle.laws.proofs.Ladder.{passed, stopped}
 use Rattle.laws.proofs.Tests.{held, failed}
 use Rattle.program_graph.specs.Messaging.{receive_of}
@@ -14,4 +13,4 @@ receive-requires c = fitting _ _ (held c.fits_table.ensures c.if-not-fits_table.
 
 pub returns : goal.returns
 unfolding receive_of
-returns c = let e = c.before in passed _ (held e.fits_table.ensures e.if-not-fits_table.false-raw) c.receive.ensures
+returns c = passed _ (held c.fits_table.ensures c.if-not-fits_table.false-raw) c.receive.ensures

@@ -1,5 +1,4 @@
 use mathlib.Core.Path.{◌∙◌, ap}
-use borrow.Author.Rules.{rules}
 use Rattle.laws.proofs.Ladder.{passed, stopped}
 use Rattle.laws.proofs.Tests.{held, failed}
 use Rattle.graph_tables.specs.Refusals.{refusal}
@@ -21,4 +20,4 @@ send-requires c = fitting _ _ (held c.fits_table.ensures c.if-not-fits_table.fal
 
 pub returns : goal.returns
 unfolding send_of
-returns c = let e = c.before in passed _ (held e.fits_table.ensures e.if-not-fits_table.false-raw) c.send.ensures
+returns c = passed _ (held c.fits_table.ensures c.if-not-fits_table.false-raw) c.send.ensures

@@ -1,6 +1,5 @@
 use mathlib.Core.Path.{refl}
 use native.Mathlib.Omega.{arith}
-use borrow.Author.Rules.{rules}
 use borrow.Author.Tests.{lt-ltb, le-ltb}
 use Rattle.laws.proofs.Ladder.{passed, stopped}
 use Rattle.laws.proofs.Tests.{held, failed}
@@ -15,29 +14,21 @@ unfolding time_of
 returns-then-not-fits_table c = stopped _ _ (failed c.fits_table.ensures c.if-not-fits_table.true-raw)
 
 pub clock_count-requires : goal.clock_count-requires
-clock_count-requires c = let e = c.before in (fitting _ _ (held e.fits_table.ensures e.if-not-fits_table.false-raw)).0.words
+clock_count-requires c = (fitting _ _ (held c.fits_table.ensures c.if-not-fits_table.false-raw)).0.words
 
 pub returns-then-clock_count-c : goal.returns-then-clock_count-c
 unfolding time_of
 returns-then-clock_count-c c =
-    let n = c.before in
-    let e = n.before.before in
-    passed (Time.Refused (refusal 32)) (held e.fits_table.ensures e.if-not-fits_table.false-raw)
-    (stopped _ _ (le-ltb _ _ (rw n.clock_count.ensures at c.if-clock_count-c.true)))
+    passed (Time.Refused (refusal 32)) (held c.fits_table.ensures c.if-not-fits_table.false-raw)
+    (stopped _ _ (le-ltb _ _ (rw c.clock_count.ensures at c.if-clock_count-c.true)))
 
 pub bounds-times-c : goal.bounds-times-c
 bounds-times-c c =
-    let f = c.before in
-    let n = f.before in
-    let e = n.before.before in
-    let s = (fitting _ _ (held e.fits_table.ensures e.if-not-fits_table.false-raw)).0 in
-    omega (arith, f.if-clock_count-c.false, n.clock_count.ensures, s.counts.clocks)
+    let s = (fitting _ _ (held c.fits_table.ensures c.if-not-fits_table.false-raw)).0 in
+    omega (arith, c.if-clock_count-c.false, c.clock_count.ensures, s.counts.clocks)
 
 pub returns : goal.returns
 unfolding time_of
 returns c =
-    let f = c.before in
-    let n = f.before in
-    let e = n.before.before in
-    passed (Time.Refused (refusal 32)) (held e.fits_table.ensures e.if-not-fits_table.false-raw)
-    (passed (Time.Refused (refusal 2)) (lt-ltb _ _ (rw n.clock_count.ensures at f.if-clock_count-c.false)) refl)
+    passed (Time.Refused (refusal 32)) (held c.fits_table.ensures c.if-not-fits_table.false-raw)
+    (passed (Time.Refused (refusal 2)) (lt-ltb _ _ (rw c.clock_count.ensures at c.if-clock_count-c.false)) refl)

@@ -1,6 +1,5 @@
 use mathlib.Core.Path.{refl}
 use native.Mathlib.Omega.{arith}
-use borrow.Author.Rules.{rules}
 use borrow.Author.Tests.{lt-ltb, le-ltb}
 use Rattle.laws.proofs.Ladder.{passed, stopped}
 use Rattle.laws.proofs.Tests.{held, failed}
@@ -15,29 +14,21 @@ unfolding value_in
 returns-then-not-fits_table c = stopped _ _ (failed c.fits_table.ensures c.if-not-fits_table.true-raw)
 
 pub variable_count-requires : goal.variable_count-requires
-variable_count-requires c = let e = c.before in (fitting _ _ (held e.fits_table.ensures e.if-not-fits_table.false-raw)).0.words
+variable_count-requires c = (fitting _ _ (held c.fits_table.ensures c.if-not-fits_table.false-raw)).0.words
 
 pub returns-then-variable_count-v : goal.returns-then-variable_count-v
 unfolding value_in
 returns-then-variable_count-v c =
-    let n = c.before in
-    let e = n.before.before in
-    passed (Value.Refused (refusal 32)) (held e.fits_table.ensures e.if-not-fits_table.false-raw)
-    (stopped _ _ (le-ltb _ _ (rw n.variable_count.ensures at c.if-variable_count-v.true)))
+    passed (Value.Refused (refusal 32)) (held c.fits_table.ensures c.if-not-fits_table.false-raw)
+    (stopped _ _ (le-ltb _ _ (rw c.variable_count.ensures at c.if-variable_count-v.true)))
 
 pub bounds-vars-v : goal.bounds-vars-v
 bounds-vars-v c =
-    let f = c.before in
-    let n = f.before in
-    let e = n.before.before in
-    let s = (fitting _ _ (held e.fits_table.ensures e.if-not-fits_table.false-raw)).0 in
-    omega (arith, f.if-variable_count-v.false, n.variable_count.ensures, s.counts.variables)
+    let s = (fitting _ _ (held c.fits_table.ensures c.if-not-fits_table.false-raw)).0 in
+    omega (arith, c.if-variable_count-v.false, c.variable_count.ensures, s.counts.variables)
 
 pub returns : goal.returns
 unfolding value_in
 returns c =
-    let f = c.before.before in
-    let n = f.before in
-    let e = n.before.before in
-    passed (Value.Refused (refusal 32)) (held e.fits_table.ensures e.if-not-fits_table.false-raw)
-    (passed (Value.Refused (refusal 4)) (lt-ltb _ _ (rw n.variable_count.ensures at f.if-variable_count-v.false)) refl)
+    passed (Value.Refused (refusal 32)) (held c.fits_table.ensures c.if-not-fits_table.false-raw)
+    (passed (Value.Refused (refusal 4)) (lt-ltb _ _ (rw c.variable_count.ensures at c.if-variable_count-v.false)) refl)

@@ -1,4 +1,3 @@
-use borrow.Author.Rules.{rules}
 use Rattle.laws.proofs.Ladder.{passed, stopped}
 use Rattle.laws.proofs.Tests.{held, failed}
 use Rattle.program_graph.specs.Running.{wait_of}
@@ -14,4 +13,4 @@ wait-requires c = fitting _ _ (held c.fits_table.ensures c.if-not-fits_table.fal
 
 pub returns : goal.returns
 unfolding wait_of
-returns c = let e = c.before in passed _ (held e.fits_table.ensures e.if-not-fits_table.false-raw) c.wait.ensures
+returns c = passed _ (held c.fits_table.ensures c.if-not-fits_table.false-raw) c.wait.ensures

@@ -10,11 +10,9 @@ returns-then-guard_length-eq0 c = rw (eq-eqb _ _ (sym c.guard_length.ensures ∙
 
 pub guard_items-requires : goal.guard_items-requires
 guard_items-requires c =
-    let s = c.before.before.before.before in
-    (s.requires.0.words, omega (arith, s.requires.0.counts.transitions), (s.requires.0.transition _ s.requires.1).guard.short)
+    (c.requires.0.words, omega (arith, c.requires.0.counts.transitions), (c.requires.0.transition _ c.requires.1).guard.short)
 
 pub returns : goal.returns
 unfolding guard_holds
 returns c =
-    let e = c.before.before in
-    c.is_satisfied.ensures ∙ rw (c.guard_items.ensures, ne_eqb _ _ (λ z. e.if-guard_length-eq0.false (e.guard_length.ensures ∙ z)))
+    c.is_satisfied.ensures ∙ rw (c.guard_items.ensures, ne_eqb _ _ (λ z. c.if-guard_length-eq0.false (c.guard_length.ensures ∙ z)))

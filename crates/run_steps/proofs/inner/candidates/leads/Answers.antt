@@ -4,10 +4,8 @@ use Rattle.run_steps.proofs.inner.candidates.leads.Goals as goal
 
 pub returns-then-key_of-key : goal.returns-then-key_of-key
 returns-then-key_of-key c =
-    let s = c.before.before.before.before.before.before in
-    other_key _ _ _ _ s.args.key s.args.k (λ e. c.if-key_of-key.true (c.key_of.ensures ∙ e))
+    other_key _ _ _ _ c.args.key c.args.k (λ e. c.if-key_of-key.true (c.key_of.ensures ∙ e))
 
 pub returns : goal.returns
 returns c =
-    let s = c.before.before.before.before.before.before.before in
-    same_key _ _ _ _ s.args.key s.args.k (sym c.key_of.ensures ∙ c.if-key_of-key.false) c.passes.ensures
+    same_key _ _ _ _ c.args.key c.args.k (sym c.key_of.ensures ∙ c.if-key_of-key.false) c.passes.ensures

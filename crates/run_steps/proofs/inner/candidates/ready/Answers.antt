@@ -19,14 +19,13 @@ pub loop-k-init : goal.loop-k-init
 loop-k-init c = (refl, search rules, any_none _)
 
 pub leads-requires : goal.leads-requires
-leads-requires c =
-    let s = c.before.before.before.before.before.before.before.before.before.before.before.before.before.before.before in (
-      c.requires.0,
-      omega (arith, c.transition_count-count.ensures),
-      c.requires.1,
-      c.requires.2,
-      c.requires.3,
-    )
+leads-requires c = (
+  c.requires.0,
+  omega (arith, c.transition_count-count.ensures),
+  c.requires.1,
+  c.requires.2,
+  c.requires.3,
+)
 
 pub processes-preserved : goal.processes-preserved
 unfolding process_ready

@@ -10,8 +10,7 @@ loop-i-init c = (search rules, search rules, filled_none 0 _ _)
 
 pub loop-i-preserved : goal.loop-i-preserved
 loop-i-preserved c =
-    let l = c.before.before in
-    (omega arith, simp length-set l.loop-i.invariant.1, filled_more 0 _ _ _ _ l.loop-i.invariant.2 (omega arith) refl)
+    (omega arith, simp length-set c.loop-i.invariant.1, filled_more 0 _ _ _ _ c.loop-i.invariant.2 (omega arith) refl)
 
 pub returns : goal.returns
 returns c = filled_all 0 _ _ c.loop-i.i c.loop-i.invariant.2 c.loop-i.invariant.1 (omega arith)

@@ -7,6 +7,4 @@ returns-then-action_count-a c = and_no _ (le-ltb _ _ (rw c.action_count.ensures 
 
 pub returns : goal.returns
 returns c =
-    let e = c.before in
-    let n = e.before in
-    and_yes (lt-ltb _ _ (rw n.action_count.ensures at e.if-action_count-a.false)) (rw c.action_kind.ensures)
+    and_yes (lt-ltb _ _ (rw c.action_count.ensures at c.if-action_count-a.false)) (rw c.action_kind.ensures)

@@ -7,7 +7,7 @@ use Rattle.run_steps.specs.Steps.{reset_below}
 use Rattle.run_steps.proofs.inner.effects.reset.Goals as goal
 
 pub reset_count-i-end-requires : goal.reset_count-i-end-requires
-reset_count-i-end-requires c = let s = c.before.before in (s.requires.0.words, omega (arith, s.requires.0.counts.actions))
+reset_count-i-end-requires c = (c.requires.0.words, omega (arith, c.requires.0.counts.actions))
 
 pub loop-i-init : goal.loop-i-init
 unfolding reset_below
@@ -15,13 +15,11 @@ loop-i-init c = (search rules, refl, refl)
 
 pub reset_at-requires : goal.reset_at-requires
 reset_at-requires c =
-    let s = c.before.before.before.before.before in
-    (s.requires.0.words, omega (arith, s.requires.0.counts.actions), omega (arith, (s.requires.0.action _ s.requires.1).resets.few))
+    (c.requires.0.words, omega (arith, c.requires.0.counts.actions), omega (arith, (c.requires.0.action _ c.requires.1).resets.few))
 
 pub bounds-clocks-reset_at : goal.bounds-clocks-reset_at
 bounds-clocks-reset_at c =
-    let s = c.before.before.before.before.before.before in
-    omega (arith, c.reset_at.ensures, (s.requires.0.action _ s.requires.1).resets.clock c.loop-i.i (omega arith))
+    omega (arith, c.reset_at.ensures, (c.requires.0.action _ c.requires.1).resets.clock c.loop-i.i (omega arith))
 
 pub loop-i-preserved : goal.loop-i-preserved
 unfolding reset_below

@@ -15,7 +15,7 @@ use Rattle.run_steps.proofs.inner.effects.run_effects.Goals as goal
 use Rattle.run_steps.proofs.inner.effects.run_effects.Goals.{After-evaluate_on-evaluation}
 
 pub effect_count-e-end-requires : goal.effect_count-e-end-requires
-effect_count-e-end-requires c = let s = c.before.before in (s.requires.0.words, omega (arith, s.requires.0.counts.actions))
+effect_count-e-end-requires c = (c.requires.0.words, omega (arith, c.requires.0.counts.actions))
 
 pub loop-e-init : goal.loop-e-init
 unfolding effects_below
@@ -23,12 +23,11 @@ loop-e-init c = (search rules, refl, refl, vars_same _ _)
 
 pub effect_items-requires : goal.effect_items-requires
 effect_items-requires c =
-    let s = c.before.before.before.before.before in
-    let a = s.requires.0.action _ s.requires.1 in (
-      s.requires.0.words,
-      omega (arith, s.requires.0.counts.actions),
+    let a = c.requires.0.action _ c.requires.1 in (
+      c.requires.0.words,
+      omega (arith, c.requires.0.counts.actions),
       omega (arith, a.few),
-      ((a.plain s.requires.2).effect c.loop-e.e
+      ((a.plain c.requires.2).effect c.loop-e.e
           (omega arith)).expression.short,
     )
 
@@ -68,8 +67,7 @@ module _ (c : After-evaluate_on-evaluation) where
 
 pub returns-in_default : goal.returns-in_default
 returns-in_default c =
-    let k = c.before in
-    let l = k.loop-e in
+    let l = c.loop-e in
     let q = turned (goal.at.returns-in_default c).After-evaluate_on-evaluation c.in_default.is in
     let more : e (goal.at.returns-in_default c).After-evaluate_on-evaluation + 1 ≤ effect_count (t (goal.at.returns-in_default c).After-evaluate_on-evaluation) (a (goal.at.returns-in_default c).After-evaluate_on-evaluation) = omega (arith, few (goal.at.returns-in_default c).After-evaluate_on-evaluation) in
     let z = effects_stop (t (goal.at.returns-in_default c).After-evaluate_on-evaluation) (a (goal.at.returns-in_default c).After-evaluate_on-evaluation) (s (goal.at.returns-in_default c).After-evaluate_on-evaluation) (effect_count (t (goal.at.returns-in_default c).After-evaluate_on-evaluation) (a (goal.at.returns-in_default c).After-evaluate_on-evaluation)) (e (goal.at.returns-in_default c).After-evaluate_on-evaluation + 1) more (ap (λ (r : Effected). r.fits) q) ∙ q in (
@@ -85,34 +83,29 @@ effect_var-requires c =
 
 pub put-requires : goal.put-requires
 put-requires c =
-    let k = c.before.before.before in
     omega (
       arith,
       c.effect_var.ensures,
       (o (goal.at.put-requires c).After-evaluate_on-evaluation).requires.0.counts.variables,
       known (goal.at.put-requires c).After-evaluate_on-evaluation,
-      k.loop-e.invariant.3.words,
+      c.loop-e.invariant.3.words,
       (o (goal.at.put-requires c).After-evaluate_on-evaluation).requires.3,
     )
 
 pub loop-e-preserved : goal.loop-e-preserved
 loop-e-preserved c =
-    let p = c.before.before in
-    let v = p.before in
-    let k = v.before.before.before in
-    let l = k.loop-e in
-    let q = turned (goal.at.loop-e-preserved c).After-evaluate_on-evaluation v.in-Known.is in
-    let u = v.effect_var.ensures in (
+    let l = c.loop-e in
+    let q = turned (goal.at.loop-e-preserved c).After-evaluate_on-evaluation c.in-Known.is in
+    let u = c.effect_var.ensures in (
       omega arith,
       ap (λ (r : Effected). r.fits) q ∙ l.invariant.1,
       sym (ap (λ (r : Effected). r.word) q),
-      vars_more l.vars (variable_count (t (goal.at.loop-e-preserved c).After-evaluate_on-evaluation)) v.effect_var.result _ (l.invariant.3.words ∙ (o (goal.at.loop-e-preserved c).After-evaluate_on-evaluation).requires.3) (omega (arith, u, known (goal.at.loop-e-preserved c).After-evaluate_on-evaluation))
-          (o (goal.at.loop-e-preserved c).After-evaluate_on-evaluation).requires.0.counts.variables p.put.ensures.1 l.invariant.3 p.put.ensures.0 (ap (λ (r : Effected). r.vars) q ∙ rw u),
+      vars_more l.vars (variable_count (t (goal.at.loop-e-preserved c).After-evaluate_on-evaluation)) c.effect_var.result _ (l.invariant.3.words ∙ (o (goal.at.loop-e-preserved c).After-evaluate_on-evaluation).requires.3) (omega (arith, u, known (goal.at.loop-e-preserved c).After-evaluate_on-evaluation))
+          (o (goal.at.loop-e-preserved c).After-evaluate_on-evaluation).requires.0.counts.variables c.put.ensures.1 l.invariant.3 c.put.ensures.0 (ap (λ (r : Effected). r.vars) q ∙ rw u),
     )
 
 pub returns : goal.returns
 returns c =
     let l = c.loop-e in
-    let o = c.before.before.before.before.before in
-    let n : l.e ≡ effect_count o.args.t.now o.args.a = omega (arith, c.effect_count-e-end.ensures) in
+    let n : l.e ≡ effect_count c.args.t.now c.args.a = omega (arith, c.effect_count-e-end.ensures) in
     (sym (rw n at l.invariant.1), rw n at l.invariant.3)

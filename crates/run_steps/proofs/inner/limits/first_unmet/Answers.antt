@@ -12,9 +12,8 @@ loop-i-init c = (search rules, all_none _)
 
 pub limit_holds-requires : goal.limit_holds-requires
 limit_holds-requires c =
-    let s = c.before.before.before.before in
-    let k = limit_known_lem {i = c.loop-i.i} s.requires.0 s.requires.1 s.requires.2 (omega arith) in
-    (k.0, k.1, k.2, omega (arith, k.4, s.requires.3))
+    let k = limit_known_lem {i = c.loop-i.i} c.requires.0 c.requires.1 c.requires.2 (omega arith) in
+    (k.0, k.1, k.2, omega (arith, k.4, c.requires.3))
 
 pub returns-then-not-limit_holds : goal.returns-then-not-limit_holds
 returns-then-not-limit_holds c =

@@ -5,9 +5,8 @@ use Rattle.run_steps.proofs.inner.limits.invariants_hold.Goals as goal
 
 pub limits_hold-requires : goal.limits_hold-requires
 limits_hold-requires c =
-    let s = c.before.before.before.before in
-    let k = invariants_of_location s.requires.0 s.requires.1 in
-    rw (c.invariant_count.ensures, c.invariant_group.ensures) (k.0, k.1, k.2, s.requires.2)
+    let k = invariants_of_location c.requires.0 c.requires.1 in
+    rw (c.invariant_count.ensures, c.invariant_group.ensures) (k.0, k.1, k.2, c.requires.2)
 
 pub returns : goal.returns
 unfolding invariants_hold

@@ -12,38 +12,30 @@ loop-i-init c = (search rules, all_none _)
 
 pub limit_holds_later-requires : goal.limit_holds_later-requires
 limit_holds_later-requires c =
-    let n = c.before.before in
-    let s = n.before.before.before.before in
-    let k = invariants_of_location s.requires.0 s.requires.1 in
+    let k = invariants_of_location c.requires.0 c.requires.1 in
     let i = c.loop-i.i in
-    rw n.invariant_group-g.ensures (
-      s.requires.0,
+    rw c.invariant_group-g.ensures (
+      c.requires.0,
       k.1,
-      omega (arith, k.2.few, n.invariant_count-i-end.ensures),
-      k.2.clock i (omega (arith, n.invariant_count-i-end.ensures)),
-      s.requires.2,
-      s.requires.3,
+      omega (arith, k.2.few, c.invariant_count-i-end.ensures),
+      k.2.clock i (omega (arith, c.invariant_count-i-end.ensures)),
+      c.requires.2,
+      c.requires.3,
     )
 
 pub returns-then-not-limit_holds_later : goal.returns-then-not-limit_holds_later
 unfolding invariants_hold limits_hold
 returns-then-not-limit_holds_later c =
-    let h = c.before in
-    let l = h.before.before in
-    let n = l.before in
-    let holds = rw n.invariant_group-g.ensures at h.limit_holds_later.ensures in
-    sym (all_fails _ _ l.loop-i.i (omega (arith, n.invariant_count-i-end.ensures)) (failed holds c.if-not-limit_holds_later.true-raw))
+    let holds = rw c.invariant_group-g.ensures at c.limit_holds_later.ensures in
+    sym (all_fails _ _ c.loop-i.i (omega (arith, c.invariant_count-i-end.ensures)) (failed holds c.if-not-limit_holds_later.true-raw))
 
 pub loop-i-preserved : goal.loop-i-preserved
 loop-i-preserved c =
-    let h = c.before in
-    let l = h.before.before in
-    let holds = rw l.invariant_group-g.ensures at h.limit_holds_later.ensures in
-    (omega arith, all_more _ _ l.loop-i.invariant.1 (held holds c.if-not-limit_holds_later.false-raw))
+    let holds = rw c.invariant_group-g.ensures at c.limit_holds_later.ensures in
+    (omega arith, all_more _ _ c.loop-i.invariant.1 (held holds c.if-not-limit_holds_later.false-raw))
 
 pub returns : goal.returns
 unfolding invariants_hold limits_hold
 returns c =
-    let l = c.before in
-    let e = l.invariant_count-i-end.ensures in
-    sym (all_done _ _ l.loop-i.i (omega (arith, e)) (omega (arith, e)) l.loop-i.invariant.1)
+    let e = c.invariant_count-i-end.ensures in
+    sym (all_done _ _ c.loop-i.i (omega (arith, e)) (omega (arith, e)) c.loop-i.invariant.1)

@@ -10,6 +10,4 @@ returns-then-not-leaves_by c = and_no _ (failed c.leaves_by.ensures c.if-not-lea
 pub returns : goal.returns
 unfolding opens_by
 returns c =
-    let l = c.before.before in
-    let s = l.before.before.before.before.before in
-    and_yes (held l.leaves_by.ensures c.if-not-leaves_by.false-raw) (rw s.requires.5 at c.passes.ensures)
+    and_yes (held c.leaves_by.ensures c.if-not-leaves_by.false-raw) (rw c.requires.5 at c.passes.ensures)

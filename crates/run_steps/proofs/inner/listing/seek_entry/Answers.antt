@@ -12,31 +12,26 @@ loop-a-init c = (search rules, join_none _ _)
 
 pub overflow_cast-a : goal.overflow_cast-a
 overflow_cast-a c =
-    let s = c.before.before.before.before.before.before.before in
-    omega (arith, s.requires.0.counts.actions)
+    omega (arith, c.requires.0.counts.actions)
 
 pub returns-in_default : goal.returns-in_default
 returns-in_default c =
-    let s = c.before in
-    let l = s.before.before in
-    let x = l.args in
+    let x = c.args in
     let shared = shared_entries x.t.now (slots_of x.vars.now) x.clocks.now x.places.now (length x.places.now) in
     let found = c.in_default.is in
     first_found (shared epsilon) (join_below (action_count x.t.now) shared) x.number
-    (join_found shared x.number (action_count x.t.now) l.loop-a.a (omega arith) l.loop-a.invariant.1 s.seek_action-sought.ensures found)
+    (join_found shared x.number (action_count x.t.now) c.loop-a.a (omega arith) c.loop-a.invariant.1 c.seek_action-sought.ensures found)
     found
 
 pub loop-a-preserved : goal.loop-a-preserved
 loop-a-preserved c =
-    let s = c.before in
-    let l = s.loop-a in
-    (omega arith, join_more _ _ l.a l.invariant.1 s.seek_action-sought.ensures c.in-Left.is)
+    let l = c.loop-a in
+    (omega arith, join_more _ _ l.a l.invariant.1 c.seek_action-sought.ensures c.in-Left.is)
 
 pub returns : goal.returns
 returns c =
-    let l = c.before.before in
-    let x = l.args in
+    let x = c.args in
     let shared = shared_entries x.t.now (slots_of x.vars.now) x.clocks.now x.places.now (length x.places.now) in
     first_passed (shared epsilon) (join_below (action_count x.t.now) shared) x.number
-    (join_done shared x.number (action_count x.t.now) l.loop-a.a (omega arith) (omega arith) l.loop-a.invariant.1)
+    (join_done shared x.number (action_count x.t.now) c.loop-a.a (omega arith) (omega arith) c.loop-a.invariant.1)
     c.seek_action.ensures

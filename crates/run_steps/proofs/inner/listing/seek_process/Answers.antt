@@ -12,12 +12,9 @@ loop-k-init c = (search rules, join_none _ _)
 
 pub returns-then-left-eq0 : goal.returns-then-left-eq0
 returns-then-left-eq0 c =
-    let o = c.before.before.before in
-    let l = o.before.before in
-    let s = l.before.before.before.before.before.before in
-    let opens = sym o.opens_by.ensures ∙ c.if-opens_by.true in
-    join_found _ _ _ l.loop-k.k (omega arith) l.loop-k.invariant.1
-    (ap Found (c.entry.ensures ∙ opens_entry _ _ _ _ _ s.args.p _ opens) ∙ one_found _ _ opens c.if-left-eq0.true)
+    let opens = sym c.opens_by.ensures ∙ c.if-opens_by.true in
+    join_found _ _ _ c.loop-k.k (omega arith) c.loop-k.invariant.1
+    (ap Found (c.entry.ensures ∙ opens_entry _ _ _ _ _ c.args.p _ opens) ∙ one_found _ _ opens c.if-left-eq0.true)
     refl
 
 pub loop-k-preserved : goal.loop-k-preserved

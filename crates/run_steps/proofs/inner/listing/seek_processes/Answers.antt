@@ -15,20 +15,17 @@ loop-p-init c = (search rules, join_none _ _)
 
 pub key_with-first-requires : goal.key_with-first-requires
 key_with-first-requires c =
-    let l = c.before.before in
-    let s = l.before.before.before.before.before.before in
-    (omega (arith, s.requires.5 l.loop-p.p (omega arith), s.requires.0.counts.locations), omega arith)
+    (omega (arith, c.requires.5 c.loop-p.p (omega arith), c.requires.0.counts.locations), omega arith)
 
 pub seek_process-sought-requires : goal.seek_process-sought-requires
 seek_process-sought-requires c =
-    let s = c.before.before.before.before.before.before.before.before.before in
     let k = asked _ _ _ 0 c.key_with-first.ensures (omega arith) (omega arith) in (
-      s.requires.0,
-      s.requires.1,
-      s.requires.2,
-      s.requires.3,
-      s.requires.4
-          ∙ ap (λ (a : ℕ). clocks_by s.args.t.now a s.args.clocks.now) (sym k.action),
+      c.requires.0,
+      c.requires.1,
+      c.requires.2,
+      c.requires.3,
+      c.requires.4
+          ∙ ap (λ (a : ℕ). clocks_by c.args.t.now a c.args.clocks.now) (sym k.action),
       k.post,
     )
 

@@ -8,7 +8,7 @@ use Rattle.run_steps.specs.Messages.{message_fits}
 use Rattle.run_steps.proofs.inner.messages.message_fits.Goals as goal
 
 pub effect_count-n-requires : goal.effect_count-n-requires
-effect_count-n-requires c = let s = c.before in (s.requires.0.words, omega (arith, s.requires.0.counts.actions))
+effect_count-n-requires c = (c.requires.0.words, omega (arith, c.requires.0.counts.actions))
 
 pub returns-then-message-n : goal.returns-then-message-n
 unfolding message_fits
@@ -18,15 +18,13 @@ pub loop-e-init : goal.loop-e-init
 loop-e-init c = (search rules, all_none _)
 
 pub value_fits-requires : goal.value_fits-requires
-value_fits-requires c = let s = c.before.before.before.before.before.before in (s.requires.0, s.requires.1, s.requires.2, omega arith)
+value_fits-requires c = (c.requires.0, c.requires.1, c.requires.2, omega arith)
 
 pub returns-then-not-value_fits : goal.returns-then-not-value_fits
 unfolding message_fits
 returns-then-not-value_fits c =
-    let v = c.before in
-    let i = v.before.before.before in
-    and_yes (eq-eqb _ _ (i.if-message-n.false ∙ i.effect_count-n.ensures))
-    (sym (all_fails _ _ v.loop-e.e (omega arith) (failed v.value_fits.ensures c.if-not-value_fits.true-raw)))
+    and_yes (eq-eqb _ _ (c.if-message-n.false ∙ c.effect_count-n.ensures))
+    (sym (all_fails _ _ c.loop-e.e (omega arith) (failed c.value_fits.ensures c.if-not-value_fits.true-raw)))
 
 pub loop-e-preserved : goal.loop-e-preserved
 loop-e-preserved c = (omega arith, all_more _ _ c.loop-e.invariant.1 (held c.value_fits.ensures c.if-not-value_fits.false-raw))
@@ -34,6 +32,5 @@ loop-e-preserved c = (omega arith, all_more _ _ c.loop-e.invariant.1 (held c.val
 pub returns : goal.returns
 unfolding message_fits
 returns c =
-    let i = c.before.before in
-    and_yes (eq-eqb _ _ (i.if-message-n.false ∙ i.effect_count-n.ensures))
+    and_yes (eq-eqb _ _ (c.if-message-n.false ∙ c.effect_count-n.ensures))
     (sym (all_done _ _ c.loop-e.e (omega arith) (omega arith) c.loop-e.invariant.1))

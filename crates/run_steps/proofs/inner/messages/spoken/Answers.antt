@@ -17,7 +17,7 @@ use Rattle.run_steps.proofs.inner.messages.spoken.Goals as goal
 use Rattle.run_steps.proofs.inner.messages.spoken.Goals.{After-evaluate_on-evaluation}
 
 pub effect_count-e-end-requires : goal.effect_count-e-end-requires
-effect_count-e-end-requires c = let s = c.before.before.before.before in (s.requires.0.words, omega (arith, s.requires.0.counts.actions))
+effect_count-e-end-requires c = (c.requires.0.words, omega (arith, c.requires.0.counts.actions))
 
 pub loop-e-init : goal.loop-e-init
 unfolding spoken_below
@@ -25,12 +25,11 @@ loop-e-init c = (search rules, refl)
 
 pub effect_items-requires : goal.effect_items-requires
 effect_items-requires c =
-    let s = c.before.before.before.before.before.before.before in
-    let a = s.requires.0.action _ s.requires.1 in (
-      s.requires.0.words,
-      omega (arith, s.requires.0.counts.actions),
+    let a = c.requires.0.action _ c.requires.1 in (
+      c.requires.0.words,
+      omega (arith, c.requires.0.counts.actions),
       omega (arith, a.few),
-      ((a.send s.requires.2).expression
+      ((a.send c.requires.2).expression
           c.loop-e.e (omega arith)).short,
     )
 
@@ -75,15 +74,13 @@ module _ (c : After-evaluate_on-evaluation) where
 
 pub returns-in_default : goal.returns-in_default
 returns-in_default c =
-    let k = c.before in
     let q = turned (goal.at.returns-in_default c).After-evaluate_on-evaluation c.in_default.is in
     let more : e (goal.at.returns-in_default c).After-evaluate_on-evaluation + 1 ≤ effect_count (t (goal.at.returns-in_default c).After-evaluate_on-evaluation) (a (goal.at.returns-in_default c).After-evaluate_on-evaluation) = omega (arith, few (goal.at.returns-in_default c).After-evaluate_on-evaluation) in
     sym (spoken_stop (t (goal.at.returns-in_default c).After-evaluate_on-evaluation) (a (goal.at.returns-in_default c).After-evaluate_on-evaluation) (vars (goal.at.returns-in_default c).After-evaluate_on-evaluation) (s (goal.at.returns-in_default c).After-evaluate_on-evaluation) (effect_count (t (goal.at.returns-in_default c).After-evaluate_on-evaluation) (a (goal.at.returns-in_default c).After-evaluate_on-evaluation)) (e (goal.at.returns-in_default c).After-evaluate_on-evaluation + 1) more (ap (λ (r : Speech). r.fits) q) ∙ q)
-    ∙ begun (t (goal.at.returns-in_default c).After-evaluate_on-evaluation) (a (goal.at.returns-in_default c).After-evaluate_on-evaluation) (vars (goal.at.returns-in_default c).After-evaluate_on-evaluation) (o (goal.at.returns-in_default c).After-evaluate_on-evaluation).args.word _ k.no_message-none.ensures
+    ∙ begun (t (goal.at.returns-in_default c).After-evaluate_on-evaluation) (a (goal.at.returns-in_default c).After-evaluate_on-evaluation) (vars (goal.at.returns-in_default c).After-evaluate_on-evaluation) (o (goal.at.returns-in_default c).After-evaluate_on-evaluation).args.word _ c.no_message-none.ensures
 
 pub bounds-values-e : goal.bounds-values-e
 bounds-values-e c =
-    let k = c.before in
     omega (arith, few (goal.at.bounds-values-e c).After-evaluate_on-evaluation, (((o (goal.at.bounds-values-e c).After-evaluate_on-evaluation).requires.0.action _ (o (goal.at.bounds-values-e c).After-evaluate_on-evaluation).requires.1).send (o (goal.at.bounds-values-e c).After-evaluate_on-evaluation).requires.2).few)
 
 pub loop-e-preserved : goal.loop-e-preserved
@@ -91,11 +88,9 @@ loop-e-preserved c = (omega arith, sym (turned (goal.at.loop-e-preserved c).Afte
 
 pub returns : goal.returns
 returns c =
-    let m = c.before.before.before.before in
-    let o = m.before.before.before in
-    let t = o.args.t.now in
-    let vars = slots_of o.args.vars.now in
-    let n : c.loop-e.e ≡ effect_count t o.args.a = omega (arith, c.effect_count-e-end.ensures) in
+    let t = c.args.t.now in
+    let vars = slots_of c.args.vars.now in
+    let n : c.loop-e.e ≡ effect_count t c.args.a = omega (arith, c.effect_count-e-end.ensures) in
     c.loop-e.invariant.1
-    ∙ ap (spoken_below t o.args.a vars (saying m.no_message-none.result.values o.args.word)) n
-    ∙ begun t o.args.a vars o.args.word _ m.no_message-none.ensures
+    ∙ ap (spoken_below t c.args.a vars (saying c.no_message-none.result.values c.args.word)) n
+    ∙ begun t c.args.a vars c.args.word _ c.no_message-none.ensures

@@ -15,7 +15,7 @@ use Rattle.run_steps.proofs.inner.messages.take_in.Goals as goal
 use Rattle.run_steps.proofs.inner.messages.take_in.Goals.{After-effect_var}
 
 pub effect_count-e-end-requires : goal.effect_count-e-end-requires
-effect_count-e-end-requires c = let s = c.before.before.before in (s.requires.0.words, omega (arith, s.requires.0.counts.actions))
+effect_count-e-end-requires c = (c.requires.0.words, omega (arith, c.requires.0.counts.actions))
 
 pub loop-e-init : goal.loop-e-init
 unfolding taken_below
@@ -23,30 +23,26 @@ loop-e-init c = (search rules, refl, λ m h. vars_same _ _)
 
 pub bounds-values-e : goal.bounds-values-e
 bounds-values-e c =
-    let s = c.before.before.before.before.before.before in
-    omega (arith, c.effect_count-e-end.ensures, ((s.requires.0.action _ s.requires.1).receive s.requires.2).few)
+    omega (arith, c.effect_count-e-end.ensures, ((c.requires.0.action _ c.requires.1).receive c.requires.2).few)
 
 pub effect_var-requires : goal.effect_var-requires
 effect_var-requires c =
-    let s = c.before.before.before.before.before.before.before.before in
-    (s.requires.0.words, omega (arith, s.requires.0.counts.actions), omega (arith, (s.requires.0.action _ s.requires.1).few))
+    (c.requires.0.words, omega (arith, c.requires.0.counts.actions), omega (arith, (c.requires.0.action _ c.requires.1).few))
 
 -- the variable that takes the value at hand
 known : (c : After-effect_var)
     → c.effect_var.result < variable_count c.args.t.now
 known c =
-    let s = c.before.before.before.before.before.before.before.before.before in
     omega (
       arith,
       c.effect_var.ensures,
-      ((s.requires.0.action _ s.requires.1).receive s.requires.2).var
+      ((c.requires.0.action _ c.requires.1).receive c.requires.2).var
           c.loop-e.e (omega arith),
     )
 
 pub put-requires : goal.put-requires
 put-requires c =
-    let s = c.before.before.before.before.before.before.before.before.before in
-    omega (arith, known (goal.at.put-requires c).After-effect_var, s.requires.0.counts.variables, c.loop-e.invariant.1, s.requires.3)
+    omega (arith, known (goal.at.put-requires c).After-effect_var, c.requires.0.counts.variables, c.loop-e.invariant.1, c.requires.3)
 
 -- one more value, where v is the variable that takes it and ws are the message's values
 taken_more : (t : List ℕ) (a : ℕ) (m : Message) (vars : List Slot) (n : ℕ) {v : ℕ} {ws : List Slot} → v ≡ effect_var t a n → ws ≡ m.values →
@@ -56,21 +52,17 @@ taken_more t a m vars n e h = rw (add-one, e, h) refl
 
 pub loop-e-preserved : goal.loop-e-preserved
 loop-e-preserved c =
-    let p = c.before.before in
-    let v = p.before in
-    let l = v.loop-e in
-    let o = v.before.before.before.before.before.before.before.before.before in (
+    let l = c.loop-e in (
       omega arith,
-      rw p.put.ensures.0 (simp length-set l.invariant.1),
+      rw c.put.ensures.0 (simp length-set l.invariant.1),
       λ m h.
-          vars_more l.vars (variable_count o.args.t.now) v.effect_var.result _ (l.invariant.1 ∙ o.requires.3) (known (goal.at.loop-e-preserved c).After-effect_var)
-          o.requires.0.counts.variables p.put.ensures.1 (l.invariant.2 m h) p.put.ensures.0
-          (taken_more o.args.t.now o.args.a m _ l.e v.effect_var.ensures h),
+          vars_more l.vars (variable_count c.args.t.now) c.effect_var.result _ (l.invariant.1 ∙ c.requires.3) (known (goal.at.loop-e-preserved c).After-effect_var)
+          c.requires.0.counts.variables c.put.ensures.1 (l.invariant.2 m h) c.put.ensures.0
+          (taken_more c.args.t.now c.args.a m _ l.e c.effect_var.ensures h),
     )
 
 pub returns : goal.returns
 returns c =
     let l = c.loop-e in
-    let o = c.before.before.before.before.before.before in
-    let n : l.e ≡ effect_count o.args.t.now o.args.a = omega (arith, c.effect_count-e-end.ensures) in
-    rw n at (l.invariant.2 o.args.message refl)
+    let n : l.e ≡ effect_count c.args.t.now c.args.a = omega (arith, c.effect_count-e-end.ensures) in
+    rw n at (l.invariant.2 c.args.message refl)

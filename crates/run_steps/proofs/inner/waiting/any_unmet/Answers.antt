@@ -10,9 +10,8 @@ loop-i-init c = (search rules, any_none _)
 
 pub lower_unmet-requires : goal.lower_unmet-requires
 lower_unmet-requires c =
-    let s = c.before.before.before.before in
-    let k = limit_known_lem {i = c.loop-i.i} s.requires.0 s.requires.1 s.requires.2 (omega arith) in
-    (k.0, k.1, k.2, omega (arith, k.4, s.requires.3))
+    let k = limit_known_lem {i = c.loop-i.i} c.requires.0 c.requires.1 c.requires.2 (omega arith) in
+    (k.0, k.1, k.2, omega (arith, k.4, c.requires.3))
 
 pub returns-then-lower_unmet : goal.returns-then-lower_unmet
 returns-then-lower_unmet c = sym (any_found _ _ c.loop-i.i (omega arith) (rw c.lower_unmet.ensures at c.if-lower_unmet.true))

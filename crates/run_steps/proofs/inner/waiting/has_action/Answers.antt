@@ -9,28 +9,24 @@ pub loop-k-init : goal.loop-k-init
 loop-k-init c = (search rules, any_none _)
 
 pub leaves_by-requires : goal.leaves_by-requires
-leaves_by-requires c =
-    let f = c.before.before.before in
-    let s = f.before.before in (
-      s.requires.0.words,
-      omega (arith, s.requires.0.counts.transitions),
-      (asked _ _ _ 0 f.key_with-first.ensures (omega arith)
-          (omega arith)).post,
-    )
+leaves_by-requires c = (
+  c.requires.0.words,
+  omega (arith, c.requires.0.counts.transitions),
+  (asked _ _ _ 0 c.key_with-first.ensures (omega arith)
+      (omega arith)).post,
+)
 
 pub returns-then-leaves_by : goal.returns-then-leaves_by
 returns-then-leaves_by c =
-    let l = c.before.before.before in
     let leaves =
-    leaves_parts (asked _ _ _ 0 l.key_with-first.ensures (omega arith) (omega arith)) _ _ c.leaves_by.ensures in
-    sym (any_found _ _ l.loop-k.k (omega arith) (sym leaves ∙ c.if-leaves_by.true))
+    leaves_parts (asked _ _ _ 0 c.key_with-first.ensures (omega arith) (omega arith)) _ _ c.leaves_by.ensures in
+    sym (any_found _ _ c.loop-k.k (omega arith) (sym leaves ∙ c.if-leaves_by.true))
 
 pub loop-k-preserved : goal.loop-k-preserved
 loop-k-preserved c =
-    let l = c.before.before.before in
     let leaves =
-    leaves_parts (asked _ _ _ 0 l.key_with-first.ensures (omega arith) (omega arith)) _ _ c.leaves_by.ensures in
-    (omega arith, any_more _ _ l.loop-k.invariant.1 (sym leaves ∙ c.if-leaves_by.false))
+    leaves_parts (asked _ _ _ 0 c.key_with-first.ensures (omega arith) (omega arith)) _ _ c.leaves_by.ensures in
+    (omega arith, any_more _ _ c.loop-k.invariant.1 (sym leaves ∙ c.if-leaves_by.false))
 
 pub returns : goal.returns
 returns c = sym (any_done _ _ c.loop-k.k (omega arith) (omega arith) c.loop-k.invariant.1)

@@ -8,24 +8,17 @@ use Rattle.run_steps.proofs.inner.waiting.is_awaited.Goals as goal
 pub returns-then-pre_of-places : goal.returns-then-pre_of-places
 unfolding awaited_of
 returns-then-pre_of-places c =
-    let p = c.before.before in
-    and_no _ (ne_eqb _ _ (rw (p.pre_of.ensures, p.key_of-key.ensures) at c.if-pre_of-places.true))
+    and_no _ (ne_eqb _ _ (rw (c.pre_of.ensures, c.key_of-key.ensures) at c.if-pre_of-places.true))
 
 pub returns-then-not-is_coming : goal.returns-then-not-is_coming
 unfolding awaited_of
 returns-then-not-is_coming c =
-    let e = c.before.before in
-    let p = e.before.before in
-    and_yes (eq-eqb _ _ (rw (p.pre_of.ensures, p.key_of-key.ensures) at e.if-pre_of-places.false))
+    and_yes (eq-eqb _ _ (rw (c.pre_of.ensures, c.key_of-key.ensures) at c.if-pre_of-places.false))
     (and_no _ (failed c.is_coming.ensures c.if-not-is_coming.true-raw))
 
 pub returns : goal.returns
 unfolding awaited_of
 returns c =
-    let a = c.before in
-    let i = a.before.before in
-    let e = i.before in
-    let p = e.before.before in
-    let key = p.key_of-key.ensures in
-    and_yes (eq-eqb _ _ (rw (p.pre_of.ensures, key) at e.if-pre_of-places.false))
-    (and_yes (held i.is_coming.ensures a.if-not-is_coming.false-raw) (c.is_shared.ensures ∙ rw (a.action_of.ensures, key)))
+    let key = c.key_of-key.ensures in
+    and_yes (eq-eqb _ _ (rw (c.pre_of.ensures, key) at c.if-pre_of-places.false))
+    (and_yes (held c.is_coming.ensures c.if-not-is_coming.false-raw) (c.is_shared.ensures ∙ rw (c.action_of.ensures, key)))

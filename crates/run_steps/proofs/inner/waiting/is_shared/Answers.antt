@@ -11,9 +11,7 @@ loop-p-init c = (search rules, all_none _)
 
 pub has_action-requires : goal.has_action-requires
 has_action-requires c =
-    let l = c.before.before in
-    let s = l.before.before.before in
-    (s.requires.0, omega (arith, s.requires.1 l.loop-p.p (omega arith), s.requires.0.counts.locations))
+    (c.requires.0, omega (arith, c.requires.1 c.loop-p.p (omega arith), c.requires.0.counts.locations))
 
 pub returns-then-not-has_action : goal.returns-then-not-has_action
 unfolding shared_of place_has

@@ -4,8 +4,7 @@ use Rattle.run_steps.proofs.inner.waiting.leaves_by.Goals as goal
 
 pub returns : goal.returns
 returns c =
-    let k = c.before in
-    rw (c.post_of.ensures, k.key_of-key.ensures) (leaves_first _ _ _ k.requires.2)
+    rw (c.post_of.ensures, c.key_of-key.ensures) (leaves_first _ _ _ c.requires.2)
 
 pub overflow_sub-result : goal.overflow_sub-result
 overflow_sub-result c =

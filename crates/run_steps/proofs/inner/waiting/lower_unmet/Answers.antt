@@ -4,7 +4,7 @@ use Rattle.run_steps.proofs.inner.waiting.lower_unmet.Goals as goal
 
 pub returns : goal.returns
 unfolding lower_unmet
-returns c = let l = c.before in rw (c.lower_met.ensures, l.lower_of.ensures, l.clock_of.ensures)
+returns c = rw (c.lower_met.ensures, c.lower_of.ensures, c.clock_of.ensures)
 
 pub offset_bounds-clocks-clock_of : goal.offset_bounds-clocks-clock_of
 offset_bounds-clocks-clock_of c =

@@ -4,7 +4,7 @@ use Rattle.run_steps.proofs.inner.waiting.upper_holds.Goals as goal
 
 pub returns : goal.returns
 unfolding upper_holds
-returns c = let l = c.before in rw (c.upper_met.ensures, l.upper_of.ensures, l.clock_of.ensures)
+returns c = rw (c.upper_met.ensures, c.upper_of.ensures, c.clock_of.ensures)
 
 pub offset_bounds-clocks-clock_of : goal.offset_bounds-clocks-clock_of
 offset_bounds-clocks-clock_of c =

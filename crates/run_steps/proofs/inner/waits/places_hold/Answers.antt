@@ -11,7 +11,7 @@ loop-p-init c = (search rules, all_none _)
 
 pub invariants_hold-requires : goal.invariants_hold-requires
 invariants_hold-requires c =
-    let s = c.before.before.before.before.before.before in (s.requires.0, s.requires.2 _ (omega arith), s.requires.1)
+    (c.requires.0, c.requires.2 _ (omega arith), c.requires.1)
 
 pub returns-then-not-invariants_hold : goal.returns-then-not-invariants_hold
 unfolding place_holds

@@ -11,7 +11,7 @@ loop-p-init c = (search rules, all_none _)
 
 pub invariants_hold_later-requires : goal.invariants_hold_later-requires
 invariants_hold_later-requires c =
-    let s = c.before.before.before.before.before.before in (s.requires.0, s.requires.2 _ (omega arith), s.requires.1, s.requires.3)
+    (c.requires.0, c.requires.2 _ (omega arith), c.requires.1, c.requires.3)
 
 pub returns-then-not-invariants_hold_later : goal.returns-then-not-invariants_hold_later
 unfolding place_holds

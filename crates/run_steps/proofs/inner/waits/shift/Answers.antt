@@ -18,13 +18,12 @@ old : (c : In-loop-i)
 old c = rw c.loop-i.invariant.2 (unmoved _ _ c.loop-i.i c.loop-i.i (omega arith))
 
 pub overflow_add-clocks : goal.overflow_add-clocks
-overflow_add-clocks c = let l = c.before in omega (arith, old (goal.at.overflow_add-clocks c).In-loop-i, fits_at _ _ _ l.loop-i.i l.requires.1 (omega arith))
+overflow_add-clocks c = omega (arith, old (goal.at.overflow_add-clocks c).In-loop-i, fits_at _ _ _ c.loop-i.i c.requires.1 (omega arith))
 
 pub loop-i-preserved : goal.loop-i-preserved
 unfolding shifted_below
 loop-i-preserved c =
-    let l = c.before.before in
-    (omega arith, simp length-set l.loop-i.invariant.1, rw add-one (cc (old (goal.at.loop-i-preserved c).In-loop-i)))
+    (omega arith, simp length-set c.loop-i.invariant.1, rw add-one (cc (old (goal.at.loop-i-preserved c).In-loop-i)))
 
 pub returns : goal.returns
 returns c = c.loop-i.invariant.2 ∙ ap (shifted_below _ _) (omega arith)
