@@ -1,4 +1,6 @@
-// The calls of graphs and systems for C: numbers and slices alone. include/njunnemar.h declares each, and says what it answers.
+// The calls of graphs and systems over numbers and slices alone: what crate `export_c` hands to C.
+#![tactic(auto)]
+
 pub mod building;
 pub mod graphs;
 pub mod reasons;
