@@ -5,20 +5,32 @@ import sys
 
 
 def fault(edit):
-    """What is wrong with an edit, or None. A `file:` line holds for the `old:` lines after it."""
-    path, pairs = None, 0
+    """What is wrong with an edit, or None. A `file:` line holds for the `old:` lines after it, and each pair is read in what the pairs before it made."""
+    path, old, pairs, texts = None, None, 0, {}
     for line in edit.read_text().split("\n"):
         if line.startswith("file: "):
             path = edit.parent.parent / line[6:]
             if not path.is_file():
                 return f"there is no {line[6:]}"
+            texts.setdefault(path, path.read_text())
         elif line.startswith("old: "):
             if path is None:
                 return "it names no file"
-            times = path.read_text().count(line[5:])
+            if old is not None:
+                return "an old text has no new one"
+            old = line[5:]
+            times = texts[path].count(old)
             if times != 1:
                 return f"its old text stands {times} times in {path}"
-            pairs += 1
+        elif line.startswith("new: "):
+            if old is None:
+                return "a new text has no old one"
+            if line[5:] == old:
+                return "its new text is the old one"
+            texts[path] = texts[path].replace(old, line[5:])
+            old, pairs = None, pairs + 1
+    if old is not None:
+        return "an old text has no new one"
     return None if pairs else "it has no old text"
 
 

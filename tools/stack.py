@@ -11,7 +11,6 @@ import pathlib
 import sys
 
 TOP = pathlib.Path(__file__).resolve().parent.parent
-KIT = {"io", "libc", "os", "bytes", "check", "std"}
 # Rows from the ground up: a name, what it is, its crates from left to right.
 ROWS = [
     ("ground", "no tables yet", ["laws", "time", "grammar"]),
@@ -29,15 +28,14 @@ COLOURS = ["#eceff4", "#dbeafe", "#bfdbfe", "#d1fae5", "#a7f3d0", "#fecaca", "#f
 
 
 def crates():
-    """Each crate of crates.txt with the crates of this repository that it names."""
+    """Each crate of crates.txt with the crates of this repository that it names: what the file does not list is the kit's."""
     found = {}
     for line in (TOP / "crates.txt").read_text().splitlines():
         line = line.split("#")[0].strip()
         if line:
             name, _, needs = line.partition(":")
-            # (a static library has that word behind its name)
-            found[name.split()[0]] = [d for d in needs.split() if d not in KIT]
-    return found
+            found[name.split()[0]] = needs.split()
+    return {name: [need for need in needs if need in found] for name, needs in found.items()}
 
 
 def look(needs):

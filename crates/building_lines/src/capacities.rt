@@ -3,7 +3,7 @@ use system_tables::ids::ChannelCapacity;
 use text::numbers::Small;
 use text::{numbers, output, tokens};
 
-#[derive(Drop)]
+#[derive(Clone, Copy)]
 pub enum Capacity {
     Is(ChannelCapacity),
     Bad,

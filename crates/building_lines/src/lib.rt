@@ -1,4 +1,6 @@
 // Lines that build: one graph, or a system with its channels and graphs. Each is answered by the public call that it names.
+#![tactic(auto)]
+
 mod building;
 mod capacities;
 mod channels;

@@ -8,7 +8,7 @@ use system_builder::{messages, on_graph};
 use system_tables::ids::{Channel, PgId};
 
 // Whose a graph is: its own, or a system's, by its number there.
-#[derive(Drop)]
+#[derive(Clone, Copy)]
 pub enum Owner {
     Alone,
     System(u32),
@@ -43,7 +43,7 @@ pub fn new_action(t: &mut [u64], owner: Owner) -> Placed {
 }
 
 // What a message goes by: its graph's own action alone, or a graph of a system and a channel, by their numbers.
-#[derive(Drop)]
+#[derive(Clone, Copy)]
 pub enum Carrier {
     Alone,
     Channel(u32, u32),

@@ -8,7 +8,7 @@ use text::numbers::Small;
 use text::{items, numbers, tokens};
 
 // From where, by which action, to where, and where the token after them starts.
-#[derive(Drop)]
+#[derive(Clone, Copy)]
 enum Ends {
     Are {
         pre: u32,
@@ -86,7 +86,7 @@ pub fn transition(line: &[u8], at: usize, t: &mut [u64], owner: Owner, out: &mut
 }
 
 // Two locations, and where the token after them starts.
-#[derive(Drop)]
+#[derive(Clone, Copy)]
 enum Pair {
     Is { pre: u32, post: u32, next: usize },
     Bad,

@@ -3,11 +3,11 @@ use crate::{expressions, table};
 use building_lines::{graph, system};
 use graph_builder;
 use graph_text::answers::done;
-use libc::STDOUT_FILENO;
 use program_graph::inner::fresh;
 use program_graph::record::ProgramGraphRun;
 use running_lines::running;
 use running_lines::running::Answered;
+use std::io;
 use system_builder;
 use text::{lines, ranges, tokens};
 use why_lines::regions;
@@ -150,6 +150,7 @@ fn answer(
 
 // Writes the answer to a line, and gives the run after it.
 fn tell(
+    rt: &impl Print,
     line: &[u8],
     length: usize,
     t: &mut [u64],
@@ -158,12 +159,12 @@ fn tell(
     guards: &mut [u64],
     limits: &mut [u64],
     run: ProgramGraphRun,
-) -> ProgramGraphRun {
+) -> io::Result<ProgramGraphRun> {
     let mut out = [0u8; ANSWER];
     if lines::LONGEST < length {
         let count = text::answers::bad(&mut out);
-        io::write_all(STDOUT_FILENO, tokens::part(&out, count));
-        return run;
+        rt.write_all(tokens::part(&out, count))?;
+        return Ok(run);
     }
     let answered = answer(
         tokens::part(line, length),
@@ -175,13 +176,13 @@ fn tell(
         run,
         &mut out,
     );
-    io::write_all(STDOUT_FILENO, tokens::part(&out, answered.length));
-    let next = answered.run;
-    next
+    rt.write_all(tokens::part(&out, answered.length))?;
+    Ok(answered.run)
 }
 
-// The turns are counted down, as in reading.
+// The turns are counted, as in reading.
 pub fn answer_all(
+    rt: &(impl Input + Print),
     line: &mut [u8],
     bytes: &mut [u8],
     t: &mut [u64],
@@ -189,16 +190,16 @@ pub fn answer_all(
     state: &mut [u64],
     guards: &mut [u64],
     limits: &mut [u64],
-) {
+) -> io::Result<()> {
+    let mut from = rt.reader();
     let mut run = fresh::no_run();
     let mut reader = lines::start();
-    let mut turns = u64::MAX;
-    while 0 < turns {
-        reader = lines::read_line(line, bytes, reader);
+    for _ in 0..u64::MAX {
+        reader = lines::read_line(&mut from, line, bytes, reader)?;
         if !reader.whole {
-            return;
+            return Ok(());
         }
-        run = tell(line, reader.length, t, s, state, guards, limits, run);
-        turns -= 1;
+        run = tell(rt, line, reader.length, t, s, state, guards, limits, run)?;
     }
+    Ok(())
 }

@@ -60,11 +60,9 @@ pub fn poke(
 fn weighed(t: &[u64]) -> u64 {
     let mut last: u64 = 0;
     let mut sum: u64 = 0;
-    let mut left = t.len();
-    while 0 < left {
-        left -= 1;
-        last = std::num::wrapping_add_u64(last, t[left]);
-        sum = std::num::wrapping_add_u64(sum, last);
+    for word in t.iter().rev() {
+        last = last.wrapping_add(*word);
+        sum = sum.wrapping_add(last);
     }
     sum
 }

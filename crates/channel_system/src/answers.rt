@@ -8,7 +8,7 @@ use system_tables::ids::{Communication, PgId};
 
 // What an accepted communication did: on which channel, of which kind, its values. `on` is plain where there is no event: of a plain
 // step, and of one that is refused.
-#[derive(Drop)]
+#[derive(Clone, Copy)]
 pub struct Event {
     pub pg_id: PgId,
     pub on: Communication,
@@ -16,14 +16,14 @@ pub struct Event {
 }
 
 // A step.
-#[derive(Drop)]
+#[derive(Clone, Copy)]
 pub struct Stepped {
     pub answer: Done,
     pub event: Event,
 }
 
 // A wait. Where invariants stand against it, the lowest graph that has one is named.
-#[derive(Drop)]
+#[derive(Clone, Copy)]
 pub enum Waited {
     Accepted,
     Invariant(PgId),
@@ -31,7 +31,7 @@ pub enum Waited {
 }
 
 // An entry of the listing of all graphs, or that it is past the end.
-#[derive(Drop)]
+#[derive(Clone, Copy)]
 pub enum Listed {
     At(PgId, Entry),
     End,
@@ -39,21 +39,21 @@ pub enum Listed {
 }
 
 // The time of the system.
-#[derive(Drop)]
+#[derive(Clone, Copy)]
 pub enum Now {
     Is(u32),
     Refused(Refusal),
 }
 
 // How many values are stored.
-#[derive(Drop)]
+#[derive(Clone, Copy)]
 pub enum Length {
     Is(usize),
     Refused(Refusal),
 }
 
 // A stored value, or that it is past the end.
-#[derive(Drop)]
+#[derive(Clone, Copy)]
 pub enum Queued {
     At(Val),
     End,
@@ -61,7 +61,7 @@ pub enum Queued {
 }
 
 // The run of a graph, if it is told.
-#[derive(Drop)]
+#[derive(Clone, Copy)]
 pub struct GraphRun {
     pub answer: Done,
     pub run: ProgramGraphRun,

@@ -1,7 +1,7 @@
 // What is told of a step.
 // The process, its first candidate, what fails of it (run_steps::failures, or NO_CANDIDATE), and which limit or invariant that is. All 0 where
 // there is no cause.
-#[derive(Drop)]
+#[derive(Clone, Copy)]
 pub struct Cause {
     pub process: usize,
     pub transition: usize,
@@ -13,14 +13,14 @@ pub struct Cause {
 pub const NO_CANDIDATE: u64 = 4;
 
 // Where the part that fails stands in its table.
-#[derive(Drop)]
+#[derive(Clone, Copy)]
 pub struct Part {
     pub start: usize,
     pub length: usize,
 }
 
 // The number of the answer, 0 for ok, with the cause of an 8.
-#[derive(Drop)]
+#[derive(Clone, Copy)]
 pub struct Found {
     pub answer: u32,
     pub cause: Cause,

@@ -21,7 +21,7 @@ use Rattle.grammar.specs.declared.evaluation.Evaluated.TheVariants.{Known, NoVal
 use Rattle.grammar.proofs.IllLaws.{Ill, ill_before, ill_pushed, never_ill}
 
 module _ (kinds : List ℕ) (vars others : List Slot) (same : (v : ℕ) → v < length kinds → get_or vars v blank ≡ get_or others v blank) where
-  -- an item has one step over both, or pushes an ill_typed operand
+  -- an item has one step over both, or pushes an ill-typed operand
   abbrev SameStep : Read → Type 0
   SameStep r = ((left : ℕ) → value_step vars left r ≡ value_step others left r) ⊎ (kind_step kinds r ≡ push ill)
 
@@ -37,7 +37,7 @@ module _ (kinds : List ℕ) (vars others : List Slot) (same : (v : ℕ) → v < 
   same_step (item Item.Draw) = inl (λ left. refl)
   same_step none = inl (λ left. refl)
 
-  -- so the items have the same steps, or are ill_typed
+  -- so the items have the same steps, or are ill-typed
   module _ (deep : ℕ) where
     abbrev Same : List ℕ → Type 0
     Same ws = ((left : ℕ) → value_steps vars left ws ≡ value_steps others left ws) ⊎ Ill deep (kind_steps kinds ws)

@@ -28,7 +28,7 @@ use Rattle.grammar.specs.declared.evaluation.Evaluated.{Evaluated}
 use Rattle.grammar.specs.declared.evaluation.Evaluated.TheVariants.{Known, NoValue}
 use Rattle.grammar.proofs.Sound.{Of, Fit}
 
--- a new operand is ill_typed; or it has no value, and F holds; or it has a value of its kind, and F does not hold
+-- a new operand is ill-typed; or it has no value, and F holds; or it has a value of its kind, and F does not hold
 pub data Result (e : Evaluated) (k : Kinded) (F : Type 0) : Type 0 where
   bad : k ≡ ill → Result e k F
   fails : e ≡ NoValue → F → Result e k F

@@ -1,4 +1,4 @@
--- An expression with an ill_typed operand is ill_typed, whatever comes after it.
+-- An expression with an ill-typed operand is ill-typed, whatever comes after it.
 use Prim.Native.Nat.{ℕ, ◌<◌}
 use mathlib.Core.Path.{◌≡◌, refl, sym, ap, ◌∙◌}
 use mathlib.Core.Bool.{Bool, true, false}
@@ -21,7 +21,7 @@ use Rattle.grammar.specs.declared.items.Binary.TheVariants.{LessOrEqual}
 use Rattle.grammar.specs.declared.items.Item.TheVariants as Item
 use Rattle.grammar.specs.declared.typing.Typed.TheVariants.{Known, IllTyped, TableFull}
 
--- a step makes an ill_typed operand of an ill_typed one
+-- a step makes an ill-typed operand of an ill-typed one
 abbrev Strict : Step Kinded → Type 0
 Strict (push k) = Unit {0}
 Strict (change f) = f ill ≡ ill
@@ -51,7 +51,7 @@ strict kinds (item (Item.Binary b)) = binary_strict b
 strict kinds (item Item.Draw) = tt
 strict kinds none = tt
 
--- some operand is ill_typed
+-- some operand is ill-typed
 abbrev HasIll : List Kinded → Type 0
 HasIll [] = ⊥
 HasIll (of k ∷ waiting) = HasIll waiting
@@ -99,12 +99,12 @@ ill_typed deep kinds ws (of Boolean) waiting h = absurd (omega arith)
 ill_typed deep kinds ws (of Integer) waiting h = absurd (omega arith)
 ill_typed deep kinds ws ill waiting h = stays deep kinds ws (ill ∷ waiting) tt
 
--- ---- whatever waits, these steps end ill_typed
+-- ---- whatever waits, these steps end ill-typed
 module _ (deep : ℕ) where
   abbrev pub Ill : List (Step Kinded) → Type 0
   Ill steps = (waiting : List Kinded) → judged (run_of steps waiting) deep ≡ IllTyped
 
-  -- so do they after any step, and any steps after an ill_typed operand
+  -- so do they after any step, and any steps after an ill-typed operand
   pub ill_before : (i : Step Kinded) (steps : List (Step Kinded)) → Ill steps → Ill (i ∷ steps)
   unfolding run_of
   ill_before (push k) steps h waiting = h (k ∷ waiting)

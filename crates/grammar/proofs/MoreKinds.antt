@@ -18,7 +18,7 @@ kept_variable (x ∷ kinds) more zero = inl refl
 kept_variable (x ∷ kinds) more (suc n) = kept_variable kinds more n
 
 module _ (kinds more : List ℕ) where
-  -- so an item keeps its step, or pushed an ill_typed operand
+  -- so an item keeps its step, or pushed an ill-typed operand
   abbrev KeptStep : Read → Type 0
   KeptStep r = (kind_step (kinds ++ more) r ≡ kind_step kinds r) ⊎ (kind_step kinds r ≡ push ill)
 
@@ -30,7 +30,7 @@ module _ (kinds more : List ℕ) where
   kept_step (item Item.Draw) = inl refl
   kept_step none = inl refl
 
-  -- so the items keep their steps, or were ill_typed
+  -- so the items keep their steps, or were ill-typed
   module _ (deep : ℕ) where
     abbrev Kept : List ℕ → Type 0
     Kept ws = (kind_steps (kinds ++ more) ws ≡ kind_steps kinds ws) ⊎ Ill deep (kind_steps kinds ws)

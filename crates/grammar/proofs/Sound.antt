@@ -30,7 +30,7 @@ abbrev pub HasKind : Evaluated → Kind → Type 0
 HasKind NoValue k = Unit {0}
 HasKind (Known v) k = kind_of v ≡ k
 
--- of an ill_typed operand nothing is said
+-- of an ill-typed operand nothing is said
 abbrev pub Of : Evaluated → Kinded → Type 0
 Of e (of k) = HasKind e k
 Of e ill = Unit {0}

@@ -36,7 +36,7 @@ abbrev pub kinded_word : Kinded → ℕ
 kinded_word (of k) = kind_word k
 kinded_word ill = 2
 
--- the kind of an operand; ill_typed what is none
+-- the kind of an operand; ill-typed what is none
 unfoldable pub operand_kind : List ℕ → Read → Kinded
 operand_kind kinds (item (Item.Constant v)) = of (kind_of v)
 operand_kind kinds (item (Item.Variable n)) = variable_kind kinds n
@@ -50,7 +50,7 @@ unfoldable pub plane_of : ℕ → ℕ → List Kinded
 plane_of zero bits = []
 plane_of (suc n) bits = kinded_at (bits % 2) ∷ plane_of n (bits / 2)
 
--- what a step leaves of them: some, from which the run goes on; or none, and the run is ill_typed whatever comes after
+-- what a step leaves of them: some, from which the run goes on; or none, and the run is ill-typed whatever comes after
 pub record Left (i : Step Kinded) (n bits : ℕ) (r : Waiting) : Type 0 where
   pub small : r.integers < 2 ^ r.depth
   pub fewer : r.depth ≤ n
@@ -78,7 +78,7 @@ unfoldable pub digits_of : List Kind → ℕ
 digits_of [] = 0
 digits_of (k ∷ waiting) = 4 * digits_of waiting + kind_word k + 1
 
--- one operand more; 0 where it is ill_typed
+-- one operand more; 0 where it is ill-typed
 abbrev pub digits_with : Kinded → ℕ → ℕ
 digits_with (of k) digits = 4 * digits + kind_word k + 1
 digits_with ill digits = 0

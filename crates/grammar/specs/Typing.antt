@@ -1,4 +1,4 @@
--- The kind of an expression, or the refusal: 6 where it is ill_typed, names an unknown variable, has no items or not
+-- The kind of an expression, or the refusal: 6 where it is ill-typed, names an unknown variable, has no items or not
 -- exactly one result; 28 beyond 64 items, and, last, where more than 16 operands wait (docs/RULES.md, Expressions).
 use Rattle.std.specs.Prelude.{ℕ, zero, suc, Bool, true, false, cond, List, [], ◌∷◌, eqb, leb, get_or, length}
 use Rattle.laws.specs.Ladder.{unless}
@@ -64,7 +64,7 @@ typed_as w IllTyped = false
 typed_as w TableFull = false
 typed_as w (TooDeep k) = false
 
--- The kind of an operand, or that it is ill_typed.
+-- The kind of an operand, or that it is ill-typed.
 pub data Kinded : Type 0 where
   of : Kind → Kinded
   ill : Kinded

@@ -5,14 +5,14 @@ ghost use Rattle.grammar.specs.Evaluation.{evaluation_of};
 use crate::inner::evaluation;
 use crate::values::{Slot, Val};
 
-#[derive(Drop)]
+#[derive(Clone, Copy)]
 pub enum Evaluated {
     Known(Val),
     NoValue,
 }
 
 // A value or none, and what is left of the word for the next expression.
-#[derive(Drop)]
+#[derive(Clone, Copy)]
 pub struct Evaluation {
     pub value: Evaluated,
     pub rest: u64,

@@ -6,13 +6,13 @@ ghost use Rattle.grammar.specs.Inner.{row_of, slot_of};
 use crate::bits;
 use crate::values::Val;
 
-#[derive(Drop)]
+#[derive(Clone, Copy)]
 pub enum Unary {
     Not,
     Negate,
 }
 
-#[derive(Drop)]
+#[derive(Clone, Copy)]
 pub enum Binary {
     And,
     Or,
@@ -26,7 +26,7 @@ pub enum Binary {
     LessOrEqual,
 }
 
-#[derive(Drop)]
+#[derive(Clone, Copy)]
 pub enum Item {
     Constant(Val),
     Variable(u32),

@@ -1,4 +1,6 @@
 // The language of guards and effects: values, items, typing and evaluation of postfix expressions.
+#![tactic(auto)]
+
 pub mod bits;
 pub mod draws;
 pub mod evaluation;

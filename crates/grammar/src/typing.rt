@@ -10,7 +10,7 @@ ghost use Rattle.grammar.specs.Inner.{kinded_word, operand_kind, code_of, typed_
 use crate::values::Type;
 use crate::{items, waiting};
 
-#[derive(Drop)]
+#[derive(Clone, Copy)]
 pub enum Typed {
     Known(Type),
     // 6
@@ -22,7 +22,7 @@ pub enum Typed {
 }
 
 // The kind or the refusal, and, of an expression that has a kind, the number of its draws.
-#[derive(Drop)]
+#[derive(Clone, Copy)]
 pub struct Judged {
     pub typed: Typed,
     pub draws: usize,

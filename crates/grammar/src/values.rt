@@ -2,20 +2,20 @@
 ghost use Rattle.std.specs.Prelude.{◌≡◌};
 ghost use Rattle.grammar.specs.Values.{kind_of, same_val, kind_word};
 
-#[derive(Drop)]
+#[derive(Clone, Copy)]
 pub enum Type {
     Boolean,
     Integer,
 }
 
-#[derive(Drop)]
+#[derive(Clone, Copy)]
 pub enum Val {
     Boolean(bool),
     Integer(i32),
 }
 
 // A value in an array.
-#[derive(Drop)]
+#[derive(Clone, Copy)]
 pub struct Slot {
     pub value: Val,
 }

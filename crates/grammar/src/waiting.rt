@@ -10,7 +10,7 @@ use crate::items;
 
 // How many wait, and a bit for each, the last the lowest: 1 for an integer, 0 for a boolean. A third kind would be a second
 // number of such bits.
-#[derive(Drop)]
+#[derive(Clone, Copy)]
 pub(crate) struct Waiting {
     pub(crate) depth: usize,
     pub(crate) integers: u64,

@@ -1,4 +1,4 @@
--- The calls of a well_formed_lem table's actions make them, with their resets and effects, or their messages.
+-- The calls of a well-formed table's actions make them, with their resets and effects, or their messages.
 use Prim.Native.Nat.{ℕ, zero, suc, ◌+◌, ◌<◌, ◌≤◌}
 use mathlib.Core.Path.{◌≡◌, refl, sym, ap, subst, ◌∙◌}
 use mathlib.Core.Bool.{Bool, true, false, cond}

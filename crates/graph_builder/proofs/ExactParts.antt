@@ -1,4 +1,4 @@
--- The calls of a well_formed_lem table's variables, clocks, locations and processes make them.
+-- The calls of a well-formed table's variables, clocks, locations and processes make them.
 use Prim.Native.Nat.{ℕ, suc, ◌<◌}
 use mathlib.Core.Path.{◌≡◌, sym, ap, ◌∙◌}
 use mathlib.Core.Bool.{true}

@@ -47,7 +47,7 @@ makes_all t s =
     (makes_both (each_of (action_calls t) (action_count t)) (each_of (transition_calls t) (transition_count t)) _ _ _ (makes_actions t s)
     (makes_transitions t s)))))
 
--- ---- a well_formed_lem table t, and the table that `new` leaves of any words s
+-- ---- a well-formed table t, and the table that `new` leaves of any words s
 module _ (s t : List ℕ) (words : Words s) (formed : well_formed t true ≡ true) where
   -- Its calls hand over what a program can; from the empty table each is accepted in its turn;
   pub calls_fit : AllFit (calls_of t)

@@ -1,4 +1,4 @@
--- The calls of a well_formed_lem table's transitions make them.
+-- The calls of a well-formed table's transitions make them.
 use Prim.Native.Nat.{ℕ, zero, suc, ◌<◌, ◌≤◌}
 use mathlib.Core.Path.{◌≡◌, refl, ap, ◌∙◌}
 use mathlib.Core.Bool.{true, ◌||◌}

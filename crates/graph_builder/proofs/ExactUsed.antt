@@ -1,4 +1,4 @@
--- A table that has every word that a well_formed_lem one uses is well formed.
+-- A table that has every word that a well-formed one uses is well formed.
 use Prim.Native.Nat.{ℕ, zero, suc, ◌+◌, ◌<◌, ◌≤◌}
 use mathlib.Core.Path.{◌≡◌, refl, ap, ◌∙◌}
 use mathlib.Core.Logic.{◌≢◌}

@@ -1,4 +1,4 @@
--- Two well_formed_lem tables that read alike have the same words in use.
+-- Two well-formed tables that read alike have the same words in use.
 use Prim.Native.Nat.{ℕ, zero, suc, ◌+◌, ◌%◌, ◌<◌, ◌≤◌}
 use mathlib.Core.Path.{◌≡◌, refl, sym, ap, ◌∙◌}
 use mathlib.Core.Logic.{◌≢◌}

@@ -1,4 +1,4 @@
--- Each building call leaves a well_formed_lem table well formed: the parts of the theorem.
+-- Each building call leaves a well-formed table well formed: the parts of the theorem.
 use Prim.Native.Nat.{ℕ, ◌<◌, ◌≤◌}
 use mathlib.Core.Path.{◌≡◌, refl}
 use mathlib.Core.Bool.{Bool, true, false, cond, ◌||◌}

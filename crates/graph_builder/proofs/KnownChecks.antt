@@ -1,4 +1,4 @@
--- On a well_formed_lem table no check refuses with 32.
+-- On a well-formed table no check refuses with 32.
 use Prim.Native.Nat.{ℕ, zero, suc}
 use mathlib.Core.Path.{◌≡◌}
 use mathlib.Core.Logic.{◌≢◌}

@@ -126,7 +126,7 @@ pub reads_all : (t : List ℕ) (calls : List Call) → AllFit calls → graph_of
 reads_all t [] fit = refl
 reads_all t (c ∷ calls) fit = reads_all (after t c) calls fit.1 ∙ ap (added_all (after t c) calls) (reads_one t c fit.0)
 
--- Every building call leaves a well_formed_lem table well formed, whatever it answers.
+-- Every building call leaves a well-formed table well formed, whatever it answers.
 pub stays_formed : (t : List ℕ) (c : Call) → Fits c → well_formed t true ≡ true → well_formed (after t c) true ≡ true
 stays_formed t (new_var v) fit h = var_stays t h v fit
 stays_formed t new_clock fit h = clock_stays t h
@@ -219,7 +219,7 @@ pub known_placed : (c : Done) (t : List ℕ) (n : ℕ) (u : List ℕ) → Known 
 known_placed Done.Accepted t n u h = h
 known_placed (Done.Refused r) t n u h = h
 
--- On a well_formed_lem table no call answers 32.
+-- On a well-formed table no call answers 32.
 pub call_known : (t : List ℕ) (c : Call) → well_formed t true ≡ true → answer_of t c ≢ 32
 unfolding new_var_of new_clock_of new_action_of new_process_of add_reset_of add_effect_of new_send_of new_receive_of new_timed_location_of new_initial_of add_transition_of
 call_known t (new_var v) h = known_placed (var_check t) t _ _ (var_known_lem t h)

@@ -1,4 +1,4 @@
--- A well_formed_lem table as the chain of calls that builds it, from an empty one (docs/RULES.md, 'Building'): its variables, clocks,
+-- A well-formed table as the chain of calls that builds it, from an empty one (docs/RULES.md, 'Building'): its variables, clocks,
 -- locations, processes, actions and transitions, in the order in which they are stored. What is stored is handed back.
 use Rattle.std.specs.Prelude.{ℕ, zero, suc, ◌≡◌, cond, List, [], ◌∷◌, ◌++◌, eqb, ltb}
 use Rattle.graph_tables.specs.Sizes.{limit_room, message_room, plain_kind, send_kind}

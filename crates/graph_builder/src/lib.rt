@@ -1,4 +1,6 @@
 // Building one graph on a lent table. A refusal leaves every word as it was.
+#![tactic(auto)]
+
 ghost use Rattle.std.specs.Prelude.{◌≡◌};
 ghost use Rattle.graph_tables.specs.Words.{epsilon};
 ghost use Rattle.graph_tables.specs.Handed.{no_limits};

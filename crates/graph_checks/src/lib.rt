@@ -1,2 +1,4 @@
 // What each building call asks before anything is written.
+#![tactic(auto)]
+
 pub mod checks;

@@ -1,4 +1,4 @@
--- A well_formed_lem table with an action more is well formed: a plain one, a send or a receive.
+-- A well-formed table with an action more is well formed: a plain one, a send or a receive.
 use Prim.Native.Nat.{ℕ, ◌+◌, ◌*◌, ◌<◌, ◌≤◌}
 use mathlib.Core.Path.{◌≡◌, refl, sym, ap, subst, ◌∙◌}
 use mathlib.Core.Logic.{◌≢◌}

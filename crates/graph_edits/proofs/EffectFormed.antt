@@ -1,4 +1,4 @@
--- A well_formed_lem table with an effect more is well formed.
+-- A well-formed table with an effect more is well formed.
 use Prim.Native.Nat.{ℕ, ◌+◌, ◌*◌, ◌<◌, ◌≤◌}
 use mathlib.Core.Path.{◌≡◌, ◌∙◌}
 use mathlib.Core.Logic.{◌≢◌}

@@ -1,4 +1,4 @@
--- A table that has the parts of a well_formed_lem one where they stood, and perhaps more: it is well formed if what is new in it is.
+-- A table that has the parts of a well-formed one where they stood, and perhaps more: it is well formed if what is new in it is.
 use Prim.Native.Nat.{ℕ, zero, suc, ◌+◌, ◌*◌, ◌≤◌, ◌<◌}
 use mathlib.Core.Path.{◌≡◌, refl}
 use mathlib.Core.Logic.{◌≢◌}
@@ -42,7 +42,7 @@ pub record Stands (t u : List ℕ) : Type 0 where
   pub locations : (l : ℕ) → l < location_count t → LocationStands t u l
   pub places : (p : ℕ) → p < process_count t → place_at u p ≡ place_at t p
 
--- what well_formed_lem parts say
+-- what well-formed parts say
 ordered : (t : List ℕ) (k : ℕ) → transition_formed t k ≡ true → key_before t k ≤ key_of t k
 unfolding transition_formed
 ordered t k h = leb-true _ _ (and_first _ _ (and_rest _ _ h))

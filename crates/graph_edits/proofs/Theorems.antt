@@ -5,7 +5,7 @@ pub use Rattle.graph_edits.proofs.EditsRead.{var_keeps, var_read_lem, clock_keep
 pub use Rattle.graph_edits.proofs.EditsRead.{send_keeps, send_read, receive_keeps, receive_read, location_keeps, initial_keeps}
 pub use Rattle.graph_edits.proofs.EditsRead.{initial_invariants, initial_place, reset_keeps, reset_read, effect_keeps, effect_read}
 pub use Rattle.graph_edits.proofs.EditsRead.{transition_keeps}
--- A well_formed_lem table is well formed with a part more, if the part is in order.
+-- A well-formed table is well formed with a part more, if the part is in order.
 pub use Rattle.graph_edits.proofs.PartsFormed.{var_formed, clock_formed, process_formed_lem}
 pub use Rattle.graph_edits.proofs.LocationFormed.{location_formed_lem, initial_formed}
 pub use Rattle.graph_edits.proofs.ActionFormed.{action_formed_lem, send_formed_lem, receive_formed_lem}

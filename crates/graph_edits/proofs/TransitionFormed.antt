@@ -1,4 +1,4 @@
--- A well_formed_lem table stays so when a transition is put in.
+-- A well-formed table stays so when a transition is put in.
 use Prim.Native.Nat.{ℕ, zero, suc, ◌+◌, ◌*◌, ◌-◌, ◌<◌, ◌≤◌}
 use mathlib.Core.Path.{◌≡◌, refl, ◌∙◌}
 use mathlib.Core.Bool.{Bool, true, false, cond}

@@ -33,7 +33,7 @@ use Rattle.graph_tables.specs.Formed.{well_formed}
 use Rattle.graph_tables.specs.Sound.{Counted}
 use Rattle.graph_tables.proofs.FormedLaws.{few_limits, short_effects, short_expressions, counted}
 
--- ---- a well_formed_lem table, part by part
+-- ---- a well-formed table, part by part
 pub record Formed (t : List ℕ) : Type 0 where
   pub words : Words t
   pub counts : Counted t

@@ -65,7 +65,7 @@ formed_kinds w f i e =
         let k : ℕ = w % bound_span in
         absurd (no_other k (omega arith) (eqb-false k unbounded_kind q) i e (eqb-false k spare_kind r))
 
--- A word of a well_formed_lem table that stands for a bound is the word of that bound.
+-- A word of a well-formed table that stands for a bound is the word of that bound.
 pub bound_word_back : (w : ℕ) → bound_formed w ≡ true → bound_word (bound_of w) ≡ w
 bound_word_back w f =
     included_word w (cond (eqb (w % bound_span) excluded_kind) (Excluded (w / bound_span)) Unbounded) (eqb (w % bound_span) included_kind) refl

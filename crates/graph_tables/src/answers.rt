@@ -4,26 +4,26 @@ use crate::refusals::Refusal;
 use grammar::values::Type;
 
 // The number of the new part.
-#[derive(Drop)]
+#[derive(Clone, Copy)]
 pub enum Placed {
     At(u32),
     Refused(Refusal),
 }
 
-#[derive(Drop)]
+#[derive(Clone, Copy)]
 pub enum Done {
     Accepted,
     Refused(Refusal),
 }
 
-#[derive(Drop)]
+#[derive(Clone, Copy)]
 pub enum VarType {
     Known(Type),
     Refused(Refusal),
 }
 
 // What a run may do next: an action, and where it takes a process.
-#[derive(Drop)]
+#[derive(Clone, Copy)]
 pub struct Entry {
     pub action: Action,
     pub process: usize,

@@ -8,13 +8,13 @@ use grammar::values::Slot;
 use time::{Bound, TimeRange};
 
 // A clock, and the times at which it may stand.
-#[derive(Drop)]
+#[derive(Clone, Copy)]
 pub struct Limit {
     pub clock: Clock,
     pub range: TimeRange,
 }
 
-#[derive(Drop)]
+#[derive(Clone, Copy)]
 pub struct Limits {
     pub limits: [Limit; sizes::LIMITS],
     pub count: usize,
@@ -35,14 +35,14 @@ impl Limits {
     }
 }
 
-#[derive(Drop)]
+#[derive(Clone, Copy)]
 pub struct Vars {
     pub vars: [Var; sizes::MESSAGE],
     pub count: usize,
 }
 
 // The values of a message.
-#[derive(Drop)]
+#[derive(Clone, Copy)]
 pub struct Message {
     pub values: [Slot; sizes::MESSAGE],
     pub count: usize,

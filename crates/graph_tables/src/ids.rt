@@ -1,14 +1,14 @@
 // The numbers that name a graph's parts.
-#[derive(Drop)]
+#[derive(Clone, Copy)]
 pub struct Action(pub u32);
 
-#[derive(Drop)]
+#[derive(Clone, Copy)]
 pub struct Location(pub u32);
 
-#[derive(Drop)]
+#[derive(Clone, Copy)]
 pub struct Clock(pub u32);
 
-#[derive(Drop)]
+#[derive(Clone, Copy)]
 pub struct Var(pub u32);
 
 impl Action {

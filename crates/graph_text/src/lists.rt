@@ -40,7 +40,7 @@ pub fn read_last_word(line: &[u8], at: usize) -> Number {
 }
 
 // A limit, and where the token after it starts.
-#[derive(Drop)]
+#[derive(Clone, Copy)]
 enum Condition {
     Is { limit: handed::Limit, next: usize },
     Bad,
@@ -70,7 +70,7 @@ fn read_limit(line: &[u8], at: usize) -> Condition {
 }
 
 // Whether there are limits, which, and where the token after them starts. (An enum cannot hold the array that they are in.)
-#[derive(Drop)]
+#[derive(Clone, Copy)]
 pub struct Conditions {
     pub whole: bool,
     pub limits: Limits,
@@ -148,7 +148,7 @@ pub fn read_last_limits(line: &[u8], at: usize) -> Conditions {
 }
 
 // Whether there is a guard, how many items it has, and where the token after it starts.
-#[derive(Drop)]
+#[derive(Clone, Copy)]
 pub enum Guard {
     Is {
         guarded: bool,

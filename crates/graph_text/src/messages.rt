@@ -17,7 +17,7 @@ const EXPRESSIONS: usize = 6;
 pub const WORDS: usize = EXPRESSIONS * lists::ITEMS;
 
 // Whether there are expressions alone, how many, and how many items each has.
-#[derive(Drop)]
+#[derive(Clone, Copy)]
 pub struct Sizes {
     pub whole: bool,
     pub count: usize,
@@ -90,7 +90,7 @@ fn first_vars(read: Numbers) -> Vars {
 }
 
 // Whether there are variables alone, and which. (An enum cannot hold the array that they are in.)
-#[derive(Drop)]
+#[derive(Clone, Copy)]
 pub struct Received {
     pub whole: bool,
     pub vars: Vars,

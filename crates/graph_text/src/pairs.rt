@@ -7,7 +7,7 @@ use text::{numbers, tokens};
 // The most posts of a line.
 pub const POSTS: usize = 8;
 
-#[derive(Drop)]
+#[derive(Clone, Copy)]
 pub enum Pair {
     Is { graph: u32, own: u32 },
     Bad,
@@ -58,7 +58,7 @@ fn read_location(token: &[u8]) -> Pair {
 }
 
 // Posts as a step takes them, how many there are, and where the token after them starts.
-#[derive(Drop)]
+#[derive(Clone, Copy)]
 pub struct Posts {
     pub words: [u64; POSTS],
     pub count: usize,

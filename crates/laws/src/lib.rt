@@ -1,1 +1,3 @@
 // Definitions and laws that every crate cites. There is no code here.
+#![tactic(auto)]
+

@@ -6,7 +6,6 @@ use Rattle.laws.specs.Ladder.{unless}
 use Rattle.laws.proofs.Ladder.{rung}
 use Rattle.graph_tables.specs.Answers.{done_number}
 use Rattle.graph_tables.specs.declared.answers.Done.{Done}
-use Rattle.graph_tables.specs.declared.answers.Done.TheVariants as Done
 use Rattle.graph_tables.specs.declared.refusals.Refusal.{Refusal}
 use Rattle.graph_tables.proofs.NumberLaws.{above_ok}
 use Rattle.program_graph.specs.Facts.{Ok, Not}

@@ -9,21 +9,19 @@ use borrow.Author.Tests.{eqb-true, eq-eqb, lt-ltb, le-ltb}
 use Rattle.laws.specs.Below.{all_below}
 use Rattle.laws.proofs.BelowLaws.{and_first, and_rest, and_both, all_at, all_from}
 use Rattle.grammar.specs.Evaluation.{blank}
-use Rattle.grammar.specs.Slots.{val_of, kind_in, payload_in, slots_of}
+use Rattle.grammar.specs.Slots.{kind_in, payload_in, slots_of}
 use Rattle.grammar.specs.declared.values.Val.{Val}
-use Rattle.grammar.specs.declared.values.Slot.{Slot}
 use Rattle.grammar.proofs.SlotLaws.{slots_at}
-use Rattle.graph_tables.specs.Sizes.{last_time, variable_room}
+use Rattle.graph_tables.specs.Sizes.{last_time}
 use Rattle.graph_tables.specs.Words.{variable_count, clock_count, location_count, process_count}
 use Rattle.graph_tables.specs.RunWords.{RunWords, run_processes, run_variables, places_in, vars_in, clocks_in}
 use Rattle.graph_tables.specs.Sound.{Sound}
 use Rattle.run_steps.specs.Steps.{clock_fits}
-use Rattle.run_steps.specs.Inner.{VarWords}
 use Rattle.run_steps.proofs.StepLaws.{clock_fits_lem, fits_at}
 use Rattle.grammar.specs.Slots.{is_value}
 use Rattle.program_graph.specs.declared.record.ProgramGraphRun.{ProgramGraphRun}
 use Rattle.program_graph.specs.Running.{place_known, var_fits, counts_same, run_formed}
-use Rattle.program_graph.specs.Inner.{run_at, RunOf, Leaves}
+use Rattle.program_graph.specs.Inner.{run_at, Leaves}
 use Rattle.program_graph.specs.Fits.{var_words_fit, run_words_fit, RunKept}
 use Rattle.program_graph.proofs.WordLaws.{vars_length}
 use Rattle.program_graph.proofs.RunLaws.{same_processes, same_variables}

@@ -163,7 +163,7 @@ reset_step c s t a posts word e r =
     ∙ ap (λ (b : Bool). cond b (cond (resets_clock s.table a c) 0 (time_in s c)) (time_in s c)) e
     ∙ ap (λ (b : Bool). cond b 0 (time_in s c)) r
 
--- On a well_formed_lem table, for a clock that it has:
+-- On a well-formed table, for a clock that it has:
 module _ (s : Stage) (formed : well_formed s.table true ≡ true) (z : Sized s.run) (c : ℕ) (known : c < clock_count s.table) where
   start : Timed c s
   start = record { formed = formed; sized = z; known = known }
@@ -216,7 +216,7 @@ added_reset s h c first a second fit e =
     (resets_on_lem a c (next at add) second (fit_second first (add ∷ second) fit).1 (stays_formed at.table (add_reset a c) tt formed)
     (omega (arith, r.0, none_fewer at.table (add_reset a c) tt)) r.1)
 
--- ---- from a fresh run of a well_formed_lem table
+-- ---- from a fresh run of a well-formed table
 module _ (t : List ℕ) (formed : well_formed t false ≡ true) (ms : List Member) (fit : MembersFit ms) where
   pub fresh_exactly : fitting (next_all (fresh t) ms) ≡ adds_none (fresh t) ms
   fresh_exactly = let q = fresh_fits t formed in fits_exactly (fresh t) q.0 q.1 ms fit

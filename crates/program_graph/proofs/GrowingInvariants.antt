@@ -54,7 +54,7 @@ module _ (t : List ℕ) (call : Call) (fit : Fits call) where
       (to_each (Met clocks) (limit_at t (invariant_group l)) (invariant_count t l) holds))
 
 -- ---- a chain
--- a well_formed_lem table, and a run whose arrays have their sizes and whose processes are at its locations
+-- a well-formed table, and a run whose arrays have their sizes and whose processes are at its locations
 record Placed (s : Stage) : Type 0 where
   formed : well_formed s.table true ≡ true
   sized : Sized s.run
@@ -118,7 +118,7 @@ module _ (s : Stage) (f : fitting s ≡ true) (z : Sized s.run) where
       (held_all (next at (runs call)) second (fit_second first (runs call ∷ second) fit) (placed_run at call d)
       (accepted_holds at.table at.run call e d.sized))
 
--- From a fresh run of a well_formed_lem table they hold after every chain.
+-- From a fresh run of a well-formed table they hold after every chain.
 pub fresh_invariants : (t : List ℕ) → well_formed t false ≡ true → (ms : List Member) → MembersFit ms
     → AllHold (next_all (fresh t) ms)
 fresh_invariants t formed ms fit =

@@ -7,7 +7,7 @@ use native.Mathlib.Omega.{arith}
 use lib.Dec.{eqb, ltb}
 use lib.ListN.{length, get_or}
 use borrow.Author.Tests.{eqb-true, ltb-true}
-use Rattle.laws.specs.Below.{◌and◌, all_below}
+use Rattle.laws.specs.Below.{all_below}
 use Rattle.laws.proofs.Ladder.{rung}
 use Rattle.laws.proofs.BelowLaws.{and_first, and_rest, and_both, all_at, all_from, all_kept}
 use Rattle.grammar.specs.Slots.{slots_of}

@@ -8,7 +8,7 @@ use lib.ListN.{length, get_or, take, drop}
 use lib.Seq.{get_or-take}
 use borrow.Author.Tests.{eqb-true, ltb-true}
 use Rattle.laws.specs.Ladder.{unless}
-use Rattle.laws.specs.Below.{◌and◌, all_below}
+use Rattle.laws.specs.Below.{all_below}
 use Rattle.laws.proofs.Ladder.{passed, stopped}
 use Rattle.laws.proofs.BelowLaws.{and_first, and_rest, all_at}
 use Rattle.grammar.specs.Slots.{slots_of}

@@ -8,7 +8,6 @@ use lib.ListN.{length, get_or}
 use lib.Dec.{eqb}
 use borrow.Author.Tests.{eqb-true, ltb-true}
 use Rattle.laws.specs.Ladder.{unless}
-use Rattle.laws.specs.Below.{◌and◌}
 use Rattle.laws.proofs.BelowLaws.{and_first, and_rest}
 use Rattle.grammar.specs.Evaluation.{blank}
 use Rattle.grammar.specs.declared.values.Slot.{Slot}
@@ -17,7 +16,6 @@ use Rattle.graph_tables.specs.Words.{variable_count, action_count, action_kind, 
 use Rattle.graph_tables.specs.Sound.{Sound}
 use Rattle.graph_tables.specs.Refusals.{refusal}
 use Rattle.graph_tables.specs.declared.answers.Done.{Done}
-use Rattle.graph_tables.specs.declared.answers.Done.TheVariants as Done
 use Rattle.graph_tables.specs.declared.handed.Message.{Message}
 use Rattle.run_steps.specs.Steps.{effected_of, unchanged}
 use Rattle.run_steps.specs.Messages.{taken_of, message_of}

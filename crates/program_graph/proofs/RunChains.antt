@@ -1,4 +1,4 @@
--- What holds of a run after any chain of calls, from a fresh run of a well_formed_lem table.
+-- What holds of a run after any chain of calls, from a fresh run of a well-formed table.
 use Prim.Native.Nat.{ℕ, ◌<◌}
 use mathlib.Core.Path.{◌≡◌, refl, sym, ap, subst, ◌∙◌}
 use mathlib.Core.Bool.{true, false, not, cond}
@@ -169,7 +169,7 @@ module _ (t : List ℕ) where
       chain_clock (run_after t run call) calls c k.0 k.1 l
       ∙ ap (λ (x : ℕ). since_reset t c (run_after t run call) calls x) (call_clock t run call c z l)
 
--- ---- a chain, from a fresh run of a well_formed_lem table
+-- ---- a chain, from a fresh run of a well-formed table
 module _ (t : List ℕ) (formed : well_formed t false ≡ true) where
   -- it is the fresh run
   fresh : fresh_run t ≡ (new_run_of t).run

@@ -98,23 +98,28 @@ module _ (t : List ℕ) (a : ℕ) (s : Effected) where
   abbrev turn : ℕ → Evaluated
   turn n = (evaluation_of (effects_below t a s n).vars (effects_below t a s n).word (effect_items t a n)).value
 
+  -- what is left of the word after it
+  abbrev rest_at : ℕ → ℕ
+  rest_at n = (evaluation_of (effects_below t a s n).vars (effects_below t a s n).word (effect_items t a n)).rest
+
   -- it is run where those before it had a value
   runs : (n : ℕ) → (effects_below t a s n).fits ≡ true
       → (effects_below t a s (suc n)).fits
-      ≡ (assigned (effects_below t a s n) (effect_var t a n) (turn n)
-      (evaluation_of (effects_below t a s n).vars (effects_below t a s n).word (effect_items t a n)).rest).fits
+      ≡ (assigned (effects_below t a s n) (effect_var t a n) (turn n) (rest_at n)).fits
   unfolding effects_below
   runs n f = ap (λ (r : Effected). r.fits) (next_runs (effects_below t a s n) (effect_var t a n) (effect_items t a n) f)
 
   valued_below : (n : ℕ) → (effects_below t a s n).fits ≡ true → (e : ℕ) → e < n → Valued (turn e)
-  valued_below n h e l = fits_from _ _ _ _ (sym (runs e (effects_fit t a s n e (omega arith) h)) ∙ effects_fit t a s n (suc e) l h)
+  valued_below n h e l =
+      fits_from (turn e) (effects_below t a s e) (effect_var t a e) (rest_at e)
+      (sym (runs e (effects_fit t a s n e (omega arith) h)) ∙ effects_fit t a s n (suc e) l h)
 
   all_valued : (n : ℕ) → s.fits ≡ true → ((e : ℕ) → e < n → Valued (turn e)) → (effects_below t a s n).fits ≡ true
   unfolding effects_below
   all_valued zero f h = f
   all_valued (suc n) f h =
       let k = all_valued n f (λ e l. h e (omega arith)) in
-      runs n k ∙ known_so _ (h n (omega arith)) _ _ _ ∙ k
+      runs n k ∙ known_so (turn n) (h n (omega arith)) (effects_below t a s n) (effect_var t a n) (rest_at n) ∙ k
 
 -- the effects of a plain action fit exactly when each has a value in its turn
 pub effects_valued : (t : List ℕ) (a : ℕ) (vars : List Slot) (word : ℕ)

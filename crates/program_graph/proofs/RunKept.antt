@@ -313,7 +313,7 @@ module _ (t : List ℕ) where
       (eq-eqb _ _ (ap (λ (s : Slot). kind_word (kind_of s.value))
       (get_or-set_same (start_vars t n) n (record { value = start_value t n }) blank m) ∙ e))
 
-  -- A fresh run of a well_formed_lem table is one of it.
+  -- A fresh run of a well-formed table is one of it.
   pub fresh_fits : well_formed t false ≡ true → (fits_table t (new_run_of t).run ≡ true) × Sized (new_run_of t).run
   unfolding new_run_of unless fits_table run_formed counts_same place_known
   fresh_fits h =

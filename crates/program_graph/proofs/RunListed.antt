@@ -22,7 +22,6 @@ use Rattle.program_graph.specs.Running.{fits_table, transition_of}
 use Rattle.program_graph.specs.Transitions.{listed, entry_or_end, possible_of}
 use Rattle.program_graph.specs.declared.record.ProgramGraphRun.{ProgramGraphRun}
 use Rattle.program_graph.specs.declared.answers.Listed.{Listed}
-use Rattle.program_graph.specs.declared.answers.Listed.TheVariants as Listed
 use Rattle.program_graph.proofs.RunLaws.{fitting}
 use Rattle.program_graph.proofs.RunReady.{all_pass, plain_exactly}
 

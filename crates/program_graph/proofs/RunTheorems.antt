@@ -35,7 +35,6 @@ use Rattle.program_graph.specs.declared.answers.Waited.{Waited}
 use Rattle.program_graph.specs.declared.answers.Sent.{Sent}
 use Rattle.program_graph.specs.declared.answers.Received.{Received}
 use Rattle.program_graph.specs.declared.answers.Held.{Held}
-use Rattle.program_graph.specs.declared.answers.Held.TheVariants as Held
 use Rattle.program_graph.specs.Running.{refused, refused_wait, accepted_wait, fits_table, ready_still, moved_to, autonomous_of}
 use Rattle.program_graph.specs.Running.{plain_of, acted_of, step_of, transition_of, wait_fits, wait_holds, later, waited_of, wait_of}
 use Rattle.program_graph.specs.Running.{can_wait_of}

@@ -7,7 +7,7 @@ use native.Mathlib.Omega.{arith}
 use lib.Dec.{eqb}
 use lib.ListN.{length, get_or, set}
 use borrow.Author.Tests.{eqb-true, ltb-true}
-use Rattle.laws.specs.Below.{◌and◌, all_below}
+use Rattle.laws.specs.Below.{all_below}
 use Rattle.laws.proofs.Ladder.{rung}
 use Rattle.laws.proofs.BelowLaws.{and_first, and_rest, all_at}
 use Rattle.graph_tables.specs.Layout.{post_span}

@@ -1,6 +1,6 @@
 -- On a run that fits its table a public call answers as its inner form does, and slots past the counts come back as they went in.
 use Prim.Native.Nat.{ℕ, zero, suc, ◌<◌, ◌≤◌}
-use mathlib.Core.Path.{◌≡◌, refl, sym, ap, ◌∙◌}
+use mathlib.Core.Path.{◌≡◌, refl, sym, ◌∙◌}
 use mathlib.Core.Bool.{Bool, true, false, cond}
 use mathlib.Core.List.{List}
 use native.Mathlib.Omega.{arith}
@@ -8,13 +8,11 @@ use lib.Dec.{eqb}
 use lib.ListN.{get_or}
 use lib.Seq.{get_or-set_other}
 use borrow.Author.Tests.{eqb-true, ltb-true}
-use Rattle.laws.specs.Ladder.{unless}
-use Rattle.laws.specs.Below.{◌and◌}
 use Rattle.laws.proofs.Ladder.{passed, rung}
 use Rattle.laws.proofs.BelowLaws.{and_first, and_rest}
 use Rattle.grammar.specs.Evaluation.{blank}
 use Rattle.graph_tables.specs.Sizes.{plain_kind, receive_kind}
-use Rattle.graph_tables.specs.Words.{variable_count, clock_count, action_count, action_kind, reset_count, reset_at, epsilon}
+use Rattle.graph_tables.specs.Words.{action_count, action_kind, reset_count, epsilon}
 use Rattle.graph_tables.specs.Sound.{Sound}
 use Rattle.graph_tables.specs.declared.handed.Message.{Message}
 use Rattle.run_steps.specs.Steps.{placed_below, clocks_after}

@@ -9,7 +9,6 @@ use lib.Dec.{eqb}
 use lib.ListN.{length, get_or, replicate, length-replicate}
 use borrow.Author.Tests.{eq-eqb, ne_eqb, lt-ltb}
 use Rattle.laws.specs.Ladder.{unless}
-use Rattle.laws.specs.Below.{◌and◌}
 use Rattle.laws.proofs.Ladder.{passed, rung}
 use Rattle.laws.proofs.BelowLaws.{and_both, all_from}
 use Rattle.grammar.specs.Values.{kind_of, kind_word}
@@ -29,7 +28,6 @@ use Rattle.graph_tables.specs.Sound.{Sound}
 use Rattle.graph_tables.specs.Messages.{is_plain, is_send, is_receive, message_count, value_kind}
 use Rattle.graph_tables.specs.declared.handed.Message.{Message}
 use Rattle.graph_tables.specs.declared.answers.Done.{Done}
-use Rattle.graph_tables.specs.declared.answers.Done.TheVariants as Done
 use Rattle.graph_tables.proofs.MessageLaws.{plain_kind_lem, send_kind_lem, receive_kind_lem, send_no_receive, received_kind, sent_kind}
 use Rattle.run_steps.specs.Steps.{is_kind}
 use Rattle.run_steps.specs.Messages.{voiced, spoken_next, spoken_below, unsaid, spoken_of, message_of, value_fits, message_fits}

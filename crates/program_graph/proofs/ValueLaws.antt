@@ -6,7 +6,6 @@ use mathlib.Core.List.{List}
 use native.Mathlib.Omega.{arith}
 use lib.ListN.{length}
 use lib.Dec.{eqb}
-use Rattle.laws.specs.Below.{◌and◌}
 use Rattle.laws.proofs.BelowLaws.{and_first, and_rest, and_both, all_kept}
 use Rattle.grammar.specs.Values.{kind_of, kind_word}
 use Rattle.grammar.specs.Slots.{slots_of}

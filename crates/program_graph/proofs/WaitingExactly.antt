@@ -7,7 +7,6 @@ use mathlib.Core.Logic.{◌↔◌, ◌⊎◌, inl, inr, ⊎_elim}
 use native.Mathlib.Omega.{arith}
 use borrow.Author.Tests.{eqb-true, eq-eqb, ne_eqb, not-true}
 use Rattle.laws.specs.Ladder.{unless}
-use Rattle.laws.specs.Below.{◌and◌}
 use Rattle.laws.proofs.Ladder.{passed, stopped}
 use Rattle.laws.proofs.BelowLaws.{and_first, and_rest, and_both, all_at, all_from}
 use Rattle.laws.proofs.Tests.{never}
@@ -21,9 +20,7 @@ use Rattle.program_graph.specs.Running.{fits_table, wait_open, can_wait_of, is_w
 use Rattle.program_graph.specs.Transitions.{possible_of, nosync_of}
 use Rattle.program_graph.specs.declared.record.ProgramGraphRun.{ProgramGraphRun}
 use Rattle.program_graph.specs.declared.answers.Held.{Held}
-use Rattle.program_graph.specs.declared.answers.Held.TheVariants as Held
 use Rattle.program_graph.specs.declared.answers.Listed.{Listed}
-use Rattle.program_graph.specs.declared.answers.Listed.TheVariants as Listed
 
 -- ---- tests
 one_of : (a b : Bool) → (a ≡ true) ⊎ (b ≡ true) → (a || b) ≡ true

@@ -10,7 +10,6 @@ use Rattle.run_steps.specs.Steps.{effected_of}
 use Rattle.run_steps.specs.Inner.{VarWords, VarsLeft}
 use Rattle.program_graph.specs.Running.{run_formed}
 use Rattle.graph_tables.specs.declared.answers.Done.{Done}
-use Rattle.graph_tables.specs.declared.answers.Done.TheVariants as Done
 use Rattle.graph_tables.specs.Refusals.{refusal}
 use Rattle.run_steps.specs.Messages.{no_message}
 use Rattle.program_graph.specs.declared.inner.messages.Said.{Said}

@@ -17,18 +17,14 @@ use Rattle.graph_tables.specs.Formed.{well_formed}
 use Rattle.run_steps.specs.Waiting.{waiting_of}
 use Rattle.run_steps.specs.Steps.{ready_of, clocks_after, effected_of, placed_below, post_known, clock_fits, shifted_below, place_holds}
 use Rattle.graph_tables.specs.declared.answers.Done.{Done}
-use Rattle.graph_tables.specs.declared.answers.Done.TheVariants as Done
 use Rattle.program_graph.specs.declared.record.ProgramGraphRun.{ProgramGraphRun}
 use Rattle.program_graph.specs.declared.answers.Fresh.{Fresh}
 use Rattle.program_graph.specs.declared.answers.Stepped.{Stepped}
 use Rattle.program_graph.specs.declared.answers.Waited.{Waited}
 use Rattle.program_graph.specs.declared.answers.States.{States}
 use Rattle.program_graph.specs.declared.answers.Value.{Value}
-use Rattle.program_graph.specs.declared.answers.Value.TheVariants as Value
 use Rattle.program_graph.specs.declared.answers.Time.{Time}
-use Rattle.program_graph.specs.declared.answers.Time.TheVariants as Time
 use Rattle.program_graph.specs.declared.answers.Held.{Held}
-use Rattle.program_graph.specs.declared.answers.Held.TheVariants as Held
 
 -- ---- 'Bad state': a run is one of the table's
 -- process p is at a location

@@ -9,7 +9,6 @@ use Rattle.run_steps.specs.declared.inner.listing.Sought.TheVariants.{Found, Lef
 use Rattle.program_graph.specs.Running.{fits_table}
 use Rattle.program_graph.specs.declared.record.ProgramGraphRun.{ProgramGraphRun}
 use Rattle.program_graph.specs.declared.answers.Listed.{Listed}
-use Rattle.program_graph.specs.declared.answers.Listed.TheVariants as Listed
 
 -- the whole list of a run
 abbrev pub listed : List ℕ → ProgramGraphRun → List Entry

@@ -7,28 +7,28 @@ use graph_tables::refusals::Refusal;
 use graph_tables::sizes;
 
 // A fresh run.
-#[derive(Drop)]
+#[derive(Clone, Copy)]
 pub struct Fresh {
     pub answer: Done,
     pub run: ProgramGraphRun,
 }
 
 // A step, and the run after it.
-#[derive(Drop)]
+#[derive(Clone, Copy)]
 pub struct Stepped {
     pub answer: Done,
     pub run: ProgramGraphRun,
 }
 
 // A wait, and the run after it.
-#[derive(Drop)]
+#[derive(Clone, Copy)]
 pub struct Waited {
     pub answer: Done,
     pub run: ProgramGraphRun,
 }
 
 // A send, its values if it is accepted, and the run after it.
-#[derive(Drop)]
+#[derive(Clone, Copy)]
 pub struct Sent {
     pub answer: Done,
     pub message: Message,
@@ -36,14 +36,14 @@ pub struct Sent {
 }
 
 // A receive, and the run after it.
-#[derive(Drop)]
+#[derive(Clone, Copy)]
 pub struct Received {
     pub answer: Done,
     pub run: ProgramGraphRun,
 }
 
 // Where the processes are, if they are told.
-#[derive(Drop)]
+#[derive(Clone, Copy)]
 pub struct States {
     pub answer: Done,
     pub places: [u32; sizes::PROCESSES],
@@ -51,28 +51,28 @@ pub struct States {
 }
 
 // The value of a variable.
-#[derive(Drop)]
+#[derive(Clone, Copy)]
 pub enum Value {
     Is(Val),
     Refused(Refusal),
 }
 
 // The time of a clock.
-#[derive(Drop)]
+#[derive(Clone, Copy)]
 pub enum Time {
     Is(u32),
     Refused(Refusal),
 }
 
 // Whether something holds.
-#[derive(Drop)]
+#[derive(Clone, Copy)]
 pub enum Held {
     Is(bool),
     Refused(Refusal),
 }
 
 // An entry of a listing, or that it is past the end.
-#[derive(Drop)]
+#[derive(Clone, Copy)]
 pub enum Listed {
     At(Entry),
     End,

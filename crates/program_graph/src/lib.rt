@@ -1,4 +1,6 @@
 // Running one program graph on a lent table.
+#![tactic(auto)]
+
 pub mod answers;
 pub mod inner;
 pub mod record;

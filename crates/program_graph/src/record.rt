@@ -2,7 +2,7 @@
 use grammar::values::Slot;
 use graph_tables::sizes;
 
-#[derive(Drop)]
+#[derive(Clone, Copy)]
 pub struct ProgramGraphRun {
     pub places: [u32; sizes::PROCESSES],
     pub vars: [Slot; sizes::VARIABLES],

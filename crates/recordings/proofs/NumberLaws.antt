@@ -1,14 +1,13 @@
 -- Numbers in bytes: none, one byte more below them, and how large they get.
-use Prim.Native.Nat.{ℕ, zero, suc, ◌+◌, ◌-◌, ◌*◌, ◌/◌, ◌%◌, ◌^◌, ◌≤◌, ◌<◌}
-use mathlib.Core.Path.{◌≡◌, refl, sym, ap, ◌∙◌, subst}
-use mathlib.Core.Bool.{Bool, true, false}
+use Prim.Native.Nat.{ℕ, zero, suc, ◌+◌, ◌*◌, ◌^◌, ◌≤◌, ◌<◌}
+use mathlib.Core.Path.{◌≡◌, refl, sym, ap, ◌∙◌}
 use mathlib.Core.List.{List, [], ◌∷◌, ◌++◌}
 use native.Mathlib.Nat.{pow-suc, pow-le-pow_right}
 use native.Mathlib.Numerals.{add-one}
 use native.Mathlib.Omega.{arith}
-use lib.ListN.{length, get_or, take, drop}
+use lib.ListN.{length, get_or}
 use lib.Seq.{drop-cons}
-use Rattle.recordings.specs.Numbers.{byte, number_of, part, number_at, row}
+use Rattle.recordings.specs.Numbers.{byte, number_of, number_at, row}
 
 pub number_none : (xs : List ℕ) (at : ℕ) → number_at xs at 0 ≡ 0
 unfolding number_at number_of

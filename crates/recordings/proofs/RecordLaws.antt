@@ -1,6 +1,6 @@
 -- What a record says, by its kind.
 use Prim.Native.Nat.{ℕ, ◌≤◌}
-use mathlib.Core.Path.{◌≡◌, refl, sym, ap, ◌∙◌}
+use mathlib.Core.Path.{◌≡◌, refl}
 use mathlib.Core.Bool.{Bool, true, false, cond}
 use mathlib.Core.List.{List}
 use borrow.Author.Tests.{leb-true, eq-eqb, ne_eqb}
@@ -8,8 +8,8 @@ use lib.Dec.{eqb}
 use Rattle.laws.proofs.BelowLaws.{and_first, and_rest}
 use Rattle.recordings.specs.Layout.{step_kind, post_room}
 use Rattle.recordings.specs.Numbers.{row}
-use Rattle.recordings.specs.Records.{Entry, step, wait, recorded_in, kind_in, graph_in, post_count_in, amount_in, post_in, word_in, answer_in}
-use Rattle.recordings.specs.Records.{entry_of, good_step, good_wait, good_kind, good_record}
+use Rattle.recordings.specs.Records.{step, wait, recorded_in, kind_in, graph_in, post_count_in, amount_in, post_in, word_in, answer_in}
+use Rattle.recordings.specs.Records.{entry_of, good_step, good_kind, good_record}
 
 either_answer : (b : Bool) (g a : ℕ) (ps : List ℕ) (w d x : ℕ) → recorded_in (cond b (step g a ps w x) (wait d x)) ≡ x
 either_answer true g a ps w d x = refl

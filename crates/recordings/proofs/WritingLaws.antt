@@ -1,5 +1,5 @@
 -- A block: what is written is good and reads back, and a good one is what is written of the records that it reads as.
-use Prim.Native.Nat.{ℕ, zero, suc, ◌+◌, ◌-◌, ◌*◌, ◌^◌, ◌≤◌, ◌<◌}
+use Prim.Native.Nat.{ℕ, zero, suc, ◌+◌, ◌*◌, ◌≤◌, ◌<◌}
 use mathlib.Core.Path.{◌≡◌, refl, sym, ap, ◌∙◌}
 use mathlib.Core.Bool.{Bool, true}
 use mathlib.Core.List.{List, ◌∷◌, ◌++◌}
@@ -8,7 +8,7 @@ use native.Mathlib.Omega.{arith}
 use borrow.Author.Tests.{eqb-true, eq-eqb, lt-ltb, le-ltb}
 use lib.ListN.{length, get_or, replicate, length-append, length-replicate, get_or-append}
 use lib.Seq.{take_all}
-use Rattle.laws.specs.Below.{◌and◌, sum_below}
+use Rattle.laws.specs.Below.{sum_below}
 use Rattle.laws.proofs.BelowLaws.{and_first, and_rest, and_both, all_at, all_from, sum_same}
 use Rattle.recordings.specs.Layout.{block_bytes, place_bytes, count_byte, head_zeros, head_zero_bytes, head_bytes, record_room, record_bytes, record_start}
 use Rattle.recordings.specs.Layout.{sum_byte, sum_bytes}

@@ -1,5 +1,5 @@
 -- A block, 512 bytes, and the blocks of a recording (docs/RULES.md, 'Recordings').
-use Rattle.std.specs.Prelude.{ℕ, zero, suc, ◌+◌, ◌-◌, ◌*◌, ◌/◌, Bool, cond, List, [], ◌∷◌, ◌++◌, eqb, leb, ltb, length, get_or}
+use Rattle.std.specs.Prelude.{ℕ, zero, suc, ◌+◌, ◌-◌, ◌*◌, ◌/◌, Bool, cond, List, [], ◌++◌, eqb, leb, ltb, length, get_or}
 use Rattle.laws.specs.Below.{◌and◌, all_below, sum_below}
 use Rattle.recordings.specs.Layout.{block_bytes, place_bytes, count_byte, head_zeros, head_zero_bytes, record_room, record_bytes, record_start}
 use Rattle.recordings.specs.Layout.{sum_byte, sum_bytes}

@@ -1,5 +1,5 @@
 -- Writing a block on lent bytes: records one after the other, then the rest (docs/RULES.md, 'Recordings').
-use Rattle.std.specs.Prelude.{ℕ, zero, suc, ◌+◌, ◌-◌, ◌*◌, Bool, true, false, List, [], ◌∷◌, ◌++◌, eqb, leb, ltb, length, replicate}
+use Rattle.std.specs.Prelude.{ℕ, ◌+◌, ◌-◌, ◌*◌, Bool, true, false, List, [], ◌∷◌, ◌++◌, eqb, leb, ltb, length, replicate}
 use Rattle.std.proofs.lemmas.List.Edits.{sets}
 use Rattle.laws.specs.Ladder.{unless}
 use Rattle.recordings.specs.Layout.{block_bytes, place_bytes, head_zero_bytes, record_room, record_bytes, record_start, sum_byte, sum_bytes, post_room}

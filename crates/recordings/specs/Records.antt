@@ -1,10 +1,10 @@
 -- A record, 32 bytes: what it says, whether it is good, and its bytes (docs/RULES.md, 'Recordings').
-use Rattle.std.specs.Prelude.{ℕ, zero, suc, ◌+◌, ◌-◌, ◌*◌, Bool, cond, List, [], ◌∷◌, ◌++◌, eqb, leb, length, get_or, replicate}
+use Rattle.std.specs.Prelude.{ℕ, ◌+◌, ◌-◌, ◌*◌, Bool, cond, List, eqb, leb, get_or}
 use Rattle.laws.specs.Below.{◌and◌}
 use Rattle.recordings.specs.Layout.{post_bytes, post_room, posts_bytes, step_kind, wait_kind}
 use Rattle.recordings.specs.Layout.{kind_byte, graph_byte, posts_byte, zero_byte, amount_byte, amount_bytes, first_post, word_byte, word_bytes}
 use Rattle.recordings.specs.Layout.{answer_byte, tail_byte, tail_bytes}
-use Rattle.recordings.specs.Numbers.{number_at, bytes_of, zeros_at, row}
+use Rattle.recordings.specs.Numbers.{number_at, zeros_at, row}
 
 -- a step, of a graph by an action to posts with a word, or a wait of a delta; and the answer that was recorded
 pub data Entry : Type 0 where

@@ -2,7 +2,7 @@
 use graph_tables::refusals::Refusal;
 
 // A record that answered otherwise than it says: its block, its place in it, the recorded number and the one given.
-#[derive(Drop)]
+#[derive(Clone, Copy)]
 pub struct Difference {
     pub block: u64,
     pub entry: u64,
@@ -11,7 +11,7 @@ pub struct Difference {
 }
 
 // How many records were stepped; or the first bad block; or the first difference.
-#[derive(Drop)]
+#[derive(Clone, Copy)]
 pub enum Replayed {
     Finished(u64),
     BadBlock(u64),

@@ -2,7 +2,7 @@
 use Prim.Native.Nat.{ℕ, ◌<◌}
 use mathlib.Core.List.{List}
 use native.Mathlib.Omega.{arith}
-use Rattle.graph_tables.specs.Sizes.{clock_room, group_room, limit_room}
+use Rattle.graph_tables.specs.Sizes.{group_room, limit_room}
 use Rattle.graph_tables.specs.Words.{Words, location_count, transition_count, invariant_count, limit_count, invariant_group, clock_of}
 use Rattle.graph_tables.specs.Sound.{BoundsFit, LimitsSound, Sound}
 

@@ -1,14 +1,13 @@
 -- What the lowest number says at which a test fails: it fails there and holds below. Where there is none, the test holds everywhere.
 use Prim.Native.Nat.{ℕ, zero, suc, ◌<◌, ◌≤◌}
-use mathlib.Core.Path.{◌≡◌, refl, sym, ap, ◌∙◌}
-use mathlib.Core.Bool.{Bool, true, false, cond}
+use mathlib.Core.Path.{◌≡◌, refl, sym, ◌∙◌}
+use mathlib.Core.Bool.{Bool, true, false}
 use mathlib.Core.Logic.{◌⊎◌, inl, inr, ⊎_elim}
 use native.Mathlib.Nat.{le_of_suc-le-suc, not-suc-le-zero, eq-or-lt_of_le}
 use native.Mathlib.Omega.{arith}
 use lib.Dec.{ltb, eqb}
 use borrow.Author.Tests.{lt-ltb, le-ltb, eq-eqb, ne_eqb}
 use Rattle.laws.specs.Below.{◌and◌, all_below}
-use Rattle.laws.proofs.Tests.{never}
 use Rattle.laws.proofs.BelowLaws.{and_first, and_rest, and_both, all_at, all_fails}
 use Rattle.run_steps.specs.Lowest.{lowest}
 

@@ -1,12 +1,12 @@
 -- Places past the number of processes make no difference to what waits and what is listed, so the used ones alone are lent.
 use Prim.Native.Nat.{ℕ, zero, suc, ◌<◌}
 use mathlib.Core.Path.{◌≡◌, refl, ap}
-use mathlib.Core.Bool.{Bool, cond}
+use mathlib.Core.Bool.{cond}
 use mathlib.Core.List.{List, [], ◌∷◌}
 use native.Mathlib.Nat.{le_of_suc-le-suc, not-suc-le-zero}
 use native.Mathlib.Omega.{arith}
 use lib.ListN.{get_or, take}
-use Rattle.laws.specs.Below.{all_below, any_below}
+use Rattle.laws.specs.Below.{any_below}
 use Rattle.grammar.specs.declared.values.Slot.{Slot}
 use Rattle.graph_tables.specs.Words.{action_count, transition_count, key_of, action_of, epsilon}
 use Rattle.graph_tables.specs.declared.answers.Entry.{Entry}

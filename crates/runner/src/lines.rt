@@ -6,7 +6,7 @@ use graph_tables::ids;
 use graph_tables::refusals::Refusal;
 use graph_text::answers::done;
 use graph_text::{lists, writing};
-use libc::STDOUT_FILENO;
+use std::io;
 use system_tables::ids::Action;
 use text::numbers::Small;
 use text::{lines, output, tokens};
@@ -64,29 +64,34 @@ fn answer(line: &[u8], t: &[u64], s: &mut [u64], out: &mut [u8]) -> usize {
 }
 
 // Writes the answer to a line.
-fn tell(line: &[u8], length: usize, t: &[u64], s: &mut [u64]) {
+fn tell(rt: &impl Print, line: &[u8], length: usize, t: &[u64], s: &mut [u64]) -> io::Result<()> {
     let mut out = [0u8; ANSWER];
     if LONGEST < length {
         let count = text::answers::bad(&mut out);
-        io::write_all(STDOUT_FILENO, tokens::part(&out, count));
-        return;
+        return rt.write_all(tokens::part(&out, count));
     }
     let count = answer(tokens::part(line, length), t, s, &mut out);
-    io::write_all(STDOUT_FILENO, tokens::part(&out, count));
+    rt.write_all(tokens::part(&out, count))
 }
 
-// The turns are counted down, as in reading.
-pub fn answer_all(line: &mut [u8], bytes: &mut [u8], t: &[u64], s: &mut [u64]) {
+// The turns are counted, as in reading.
+pub fn answer_all(
+    rt: &(impl Input + Print),
+    line: &mut [u8],
+    bytes: &mut [u8],
+    t: &[u64],
+    s: &mut [u64],
+) -> io::Result<()> {
+    let mut from = rt.reader();
     let mut reader = lines::start();
-    let mut turns = u64::MAX;
-    while 0 < turns {
-        reader = lines::read_line(line, bytes, reader);
+    for _ in 0..u64::MAX {
+        reader = lines::read_line(&mut from, line, bytes, reader)?;
         if !reader.whole {
-            return;
+            return Ok(());
         }
-        tell(line, reader.length, t, s);
-        turns -= 1;
+        tell(rt, line, reader.length, t, s)?;
     }
+    Ok(())
 }
 
 fn put_time(out: &mut [u8], now: Now) -> usize {
@@ -101,8 +106,8 @@ fn put_time(out: &mut [u8], now: Now) -> usize {
 }
 
 // Writes the time of the system.
-pub fn tell_time(t: &[u64], s: &[u64]) {
+pub fn tell_time(rt: &impl Print, t: &[u64], s: &[u64]) -> io::Result<()> {
     let mut out = [0u8; ANSWER];
     let count = put_time(&mut out, readers::time(t, s));
-    io::write_all(STDOUT_FILENO, tokens::part(&out, count));
+    rt.write_all(tokens::part(&out, count))
 }

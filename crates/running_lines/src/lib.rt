@@ -1,4 +1,6 @@
 // Lines on a run of a graph. Each is answered by the public call that it names.
+#![tactic(auto)]
+
 pub mod answers;
 pub mod messages;
 pub mod running;

@@ -9,7 +9,7 @@ use text::numbers::Small;
 use text::tokens;
 
 // How long the answer is, and the run after it.
-#[derive(Drop)]
+#[derive(Clone, Copy)]
 pub struct Answered {
     pub length: usize,
     pub run: ProgramGraphRun,

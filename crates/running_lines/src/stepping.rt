@@ -14,7 +14,7 @@ use text::{output, tokens};
 const VALUES: usize = 6;
 
 // Whether an action and posts are there, and which; the posts' `next` is where the token after them starts.
-#[derive(Drop)]
+#[derive(Clone, Copy)]
 struct Asked {
     whole: bool,
     action: u32,

@@ -49,7 +49,7 @@ module _ (t : List ℕ) (words : SystemWords t) where
         communications = λ g l. absurd (omega (arith, no_graphs));
       }
 
-  -- `new` makes a well_formed_lem system of any table of its length.
+  -- `new` makes a well-formed system of any table of its length.
   pub new_formed : system_formed (empty_system_of t).table true ≡ true
   unfolding empty_system_of unless
   new_formed = rw (eq-eqb _ _ words) (together (no_members t) true none_formed)

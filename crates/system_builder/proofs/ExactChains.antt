@@ -86,7 +86,7 @@ pub record GraphHas (t u : List ℕ) (g : ℕ) : Type 0 where
   pub parts : graph_of (graph_part u g) ≡ graph_of (graph_part t g)
   pub told : (a : ℕ) → a < action_count (graph_part t g) → communication_at u g a ≡ communication_at t g a
 
--- u is a well_formed_lem system that has the first m channels of t, no others, and its first n graphs
+-- u is a well-formed system that has the first m channels of t, no others, and its first n graphs
 pub record Has (t u : List ℕ) (m n : ℕ) : Type 0 where
   pub formed : system_formed u true ≡ true
   pub channels : channel_count u ≡ m

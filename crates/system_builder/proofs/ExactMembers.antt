@@ -1,4 +1,4 @@
--- The calls of a well_formed_lem system's channels and graphs make them.
+-- The calls of a well-formed system's channels and graphs make them.
 use Prim.Native.Nat.{ℕ, zero, suc, ◌+◌, ◌<◌, ◌≤◌}
 use mathlib.Core.Path.{◌≡◌, refl, sym, ap, subst, ◌∙◌}
 use mathlib.Core.Bool.{Bool, true, false, cond}

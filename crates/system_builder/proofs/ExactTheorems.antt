@@ -56,7 +56,7 @@ module _ (s : List ℕ) (words : SystemWords s) where
     graph = λ g l. absurd (omega arith);
   }
 
--- ---- a well_formed_lem system t
+-- ---- a well-formed system t
 module _ (s t : List ℕ) (words : SystemWords s) (formed : system_formed t true ≡ true) where
   all : Reached t (empty_system_of s).table (calls_of t) (channel_count t) (graph_count t)
   unfolding calls_of
@@ -97,7 +97,7 @@ module _ (s t : List ℕ) (words : SystemWords s) where
     (λ h. for_a_run t (formed_exactly.1 h.0) (all_from (started t) (graph_count t) (λ g l. lt-ltb _ _ (h.1 g l)))),
   )
 
--- ---- calls on a table that is not a well_formed_lem system
+-- ---- calls on a table that is not a well-formed system
 bad_placed : (t : List ℕ) (rest : Done) (n : ℕ) (u : List ℕ) → system_formed t true ≡ false
     → placed_number (placed_if (on_system t rest) t n u).answer ≡ 32
 unfolding unless

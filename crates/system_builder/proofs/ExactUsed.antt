@@ -1,4 +1,4 @@
--- A table that has every word that a well_formed_lem system uses is a well_formed_lem system.
+-- A table that has every word that a well-formed system uses is a well-formed system.
 use Prim.Native.Nat.{ℕ, ◌+◌, ◌<◌, ◌≤◌}
 use mathlib.Core.Path.{◌≡◌, refl, sym, ap, ◌∙◌}
 use mathlib.Core.Logic.{◌≢◌}

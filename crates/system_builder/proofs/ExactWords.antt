@@ -1,4 +1,4 @@
--- A well_formed_lem system that reads as another has its words in use.
+-- A well-formed system that reads as another has its words in use.
 use Prim.Native.Nat.{ℕ, zero, suc, ◌+◌, ◌<◌, ◌≤◌}
 use mathlib.Core.Path.{◌≡◌, refl, sym, ap, subst, ◌∙◌}
 use mathlib.Core.Bool.{true}

@@ -1,4 +1,4 @@
--- Each building call leaves a well_formed_lem system well formed: the parts of the theorem.
+-- Each building call leaves a well-formed system well formed: the parts of the theorem.
 use Prim.Native.Nat.{ℕ, ◌+◌, ◌<◌}
 use mathlib.Core.Path.{◌≡◌, refl, sym, ap, ◌∙◌}
 use mathlib.Core.Bool.{true}
@@ -231,7 +231,7 @@ module _ (t : List ℕ) (g q : ℕ) where
   unfolding receive_check_on
   receive_both v e = then_both _ _ e
 
--- A call on one graph leaves a well_formed_lem system well formed, whatever it answers.
+-- A call on one graph leaves a well-formed system well formed, whatever it answers.
 module _ (t : List ℕ) (f : Formed t true) (g : ℕ) where
   -- one that adds no action
   no_action : {A : Type 0} (refuse : Refusal → A) (call : List ℕ → Outcome A) (c : Own.Call) → Own.Fits c → NoAction c

@@ -1,4 +1,4 @@
--- What holds of every building call on a well_formed_lem system, and of chains of them.
+-- What holds of every building call on a well-formed system, and of chains of them.
 use Prim.Native.Nat.{ℕ}
 use mathlib.Core.Path.{◌≡◌}
 use mathlib.Core.Logic.{◌≢◌}
@@ -16,7 +16,7 @@ use Rattle.system_builder.proofs.FormedCalls.{on_formed}
 use Rattle.system_builder.proofs.NewMembers.{graph_formed_lem, channel_formed_lem}
 use Rattle.system_builder.proofs.KnownCalls.{call_known, build_known, kind_known_lem}
 
--- Every building call leaves a well_formed_lem system well formed, whatever it answers.
+-- Every building call leaves a well-formed system well formed, whatever it answers.
 pub keeps_formed : (t : List ℕ) (c : Call) → CallFits c → system_formed t true ≡ true → system_formed (after t c) true ≡ true
 keeps_formed t new_graph fit h = together (after t new_graph) true (graph_formed_lem t (apart t true h))
 keeps_formed t (new_channel k c) fit h = together (after t (new_channel k c)) true (channel_formed_lem t k c fit (apart t true h))

@@ -1,4 +1,4 @@
--- On a well_formed_lem system no call answers 32.
+-- On a well-formed system no call answers 32.
 use Prim.Native.Nat.{ℕ}
 use mathlib.Core.Path.{◌≡◌, refl, sym, ◌∙◌}
 use mathlib.Core.Logic.{◌≢◌}
@@ -139,7 +139,7 @@ module _ (t : List ℕ) (h : system_formed t true ≡ true) where
         only_known Placed.Refused placed_number (λ r. refl) (known_check t g q.0) t (telling g (On k q) (send_part t g no_values 0))
         (both_known g q.0) (λ e. own_known (Own.new_send no_values 0) (known_member t g q.0 e))
 
-  -- On a well_formed_lem system no building call answers 32.
+  -- On a well-formed system no building call answers 32.
   pub call_known : (c : Call) → answer_of t c ≢ 32
   unfolding new_graph_of new_channel_of
   call_known new_graph = own.known_placed (graph_check t) t _ _ graph_known

@@ -1,4 +1,4 @@
--- A graph more, and a channel more, leave a well_formed_lem system well formed.
+-- A graph more, and a channel more, leave a well-formed system well formed.
 use Prim.Native.Nat.{ℕ, zero, suc, ◌+◌, ◌≤◌, ◌<◌}
 use mathlib.Core.Path.{◌≡◌, refl, sym, ap, ◌∙◌}
 use mathlib.Core.Bool.{true}

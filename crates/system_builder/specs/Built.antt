@@ -1,4 +1,4 @@
--- A well_formed_lem system as the chain of calls that builds it, from an empty one (docs/RULES.md, 'Systems'): its channels, then each of its
+-- A well-formed system as the chain of calls that builds it, from an empty one (docs/RULES.md, 'Systems'): its channels, then each of its
 -- graphs by the calls that build that graph alone, made on it. What is stored is handed back.
 use Rattle.std.specs.Prelude.{ℕ, zero, suc, ◌+◌, ◌≡◌, List, [], ◌∷◌, ◌++◌}
 use Rattle.graph_builder.specs.Chains as Own
@@ -34,7 +34,7 @@ abbrev pub channel_of : Communication → Channel
 channel_of Plain = record { 0 = 0 }
 channel_of (On m q) = q
 
--- what is a send to the graph is a send here, or a probe; no send of a well_formed_lem system is told otherwise
+-- what is a send to the graph is a send here, or a probe; no send of a well-formed system is told otherwise
 abbrev pub send_on : Communication → (ℕ → List ℕ) → ℕ → OnGraph
 send_on Plain m count = new_send (channel_of Plain) m count
 send_on (On Send q) m count = new_send q m count

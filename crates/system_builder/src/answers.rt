@@ -4,7 +4,7 @@ use graph_tables::answers::Done;
 use system_tables::ids::ChannelCapacity;
 
 // The kinds of a channel's messages and its capacity, if they are told.
-#[derive(Drop)]
+#[derive(Clone, Copy)]
 pub struct ChannelRead {
     pub answer: Done,
     pub kinds: Kinds,

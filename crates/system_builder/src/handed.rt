@@ -6,12 +6,12 @@ use grammar::values::Type;
 use graph_tables::sizes;
 
 // A kind in an array.
-#[derive(Drop)]
+#[derive(Clone, Copy)]
 pub struct Kind {
     pub kind: Type,
 }
 
-#[derive(Drop)]
+#[derive(Clone, Copy)]
 pub struct Kinds {
     pub kinds: [Kind; sizes::MESSAGE],
     pub count: usize,

@@ -1,4 +1,6 @@
 // Building a channel system on a lent table. A refusal leaves every word as it was.
+#![tactic(auto)]
+
 ghost use Rattle.std.specs.Prelude.{◌≡◌};
 ghost use Rattle.system_builder.specs.Systems.{empty_system_of, new_graph_of, new_channel_of, build_system_of, channel_in};
 

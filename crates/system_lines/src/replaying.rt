@@ -7,7 +7,7 @@ use text::{answers, output, tokens};
 const ROOM: usize = 2000;
 
 // How many bytes a token spells, or that it spells none.
-#[derive(Drop)]
+#[derive(Clone, Copy)]
 enum Spelt {
     Bytes(usize),
     Bad,

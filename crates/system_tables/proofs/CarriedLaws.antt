@@ -1,4 +1,4 @@
--- A table of which each part is that of a well_formed_lem one, or is well formed itself, is well formed: what calls that add a channel or
+-- A table of which each part is that of a well-formed one, or is well formed itself, is well formed: what calls that add a channel or
 -- a graph, or change one graph, leave.
 use Prim.Native.Nat.{ℕ, ◌≤◌, ◌<◌}
 use mathlib.Core.Path.{◌≡◌, refl, ◌∙◌}

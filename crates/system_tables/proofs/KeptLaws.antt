@@ -1,4 +1,4 @@
--- A well_formed_lem system part by part, and a table that has all that another has: what is well formed in the one is well formed in
+-- A well-formed system part by part, and a table that has all that another has: what is well formed in the one is well formed in
 -- the other.
 use Prim.Native.Nat.{ℕ, ◌+◌, ◌≤◌, ◌<◌}
 use mathlib.Core.Path.{◌≡◌, refl, ◌∙◌}
@@ -25,7 +25,7 @@ use Rattle.system_tables.specs.Formed.{communication_formed, communications_form
 use Rattle.system_tables.proofs.FormedLaws.{few_graphs, few_channels}
 use Rattle.system_tables.proofs.FrameLaws.{ChannelSame}
 
--- ---- a well_formed_lem table, part by part
+-- ---- a well-formed table, part by part
 pub record Formed (t : List ℕ) (building : Bool) : Type 0 where
   pub words : SystemWords t
   pub graphs : graph_count t ≤ graph_room

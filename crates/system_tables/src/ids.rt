@@ -2,25 +2,25 @@
 // does with one.
 use graph_tables::ids;
 
-#[derive(Drop)]
+#[derive(Clone, Copy)]
 pub struct PgId(pub u32);
 
-#[derive(Drop)]
+#[derive(Clone, Copy)]
 pub struct Channel(pub u32);
 
-#[derive(Drop)]
+#[derive(Clone, Copy)]
 pub struct Action(pub PgId, pub ids::Action);
 
-#[derive(Drop)]
+#[derive(Clone, Copy)]
 pub struct Location(pub PgId, pub ids::Location);
 
-#[derive(Drop)]
+#[derive(Clone, Copy)]
 pub struct Var(pub PgId, pub ids::Var);
 
-#[derive(Drop)]
+#[derive(Clone, Copy)]
 pub struct Clock(pub PgId, pub ids::Clock);
 
-#[derive(Drop)]
+#[derive(Clone, Copy)]
 pub enum Message {
     Send,
     Receive,
@@ -28,7 +28,7 @@ pub enum Message {
     ProbeFullQueue,
 }
 
-#[derive(Drop)]
+#[derive(Clone, Copy)]
 pub enum ChannelCapacity {
     Bounded(u32),
     Unbounded,
@@ -36,7 +36,7 @@ pub enum ChannelCapacity {
 }
 
 // What an action is to the system: a plain one, or a message on a channel.
-#[derive(Drop)]
+#[derive(Clone, Copy)]
 pub enum Communication {
     Plain,
     On(Message, Channel),

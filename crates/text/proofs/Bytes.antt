@@ -1,12 +1,11 @@
 -- Laws of tokens, from a place of the line on.
-use Prim.Native.Nat.{ℕ, suc, ◌+◌, ◌-◌, ◌≤◌, ◌<◌}
+use Prim.Native.Nat.{ℕ, suc, ◌+◌, ◌≤◌, ◌<◌}
 use mathlib.Core.Path.{◌≡◌, refl, ap}
 use mathlib.Core.Bool.{Bool, true, false, cond, ◌&&◌}
 use mathlib.Core.List.{List, [], ◌∷◌}
 use native.Mathlib.Omega.{arith}
 use lib.Dec.{eqb}
 use lib.ListN.{length, get_or, take, drop, length-drop}
-use lib.Seq.{take_all}
 use borrow.Author.Tests.{eq-eqb, ne_eqb}
 use Rattle.laws.proofs.Lists.{next, done}
 use Rattle.text.specs.Tokens.{token_of, same_bytes}
@@ -44,10 +43,6 @@ front (b ∷ s) = by (eqb b 32) (front s)
     by : (t : Bool) → take (length (token_of s)) s ≡ token_of s → take (length (cond t [] (b ∷ token_of s))) (b ∷ s) ≡ cond t [] (b ∷ token_of s)
     by true e = refl
     by false e = ap (λ (r : List ℕ). b ∷ r) e
-
--- ---- a part
-pub rest : (n : ℕ) (s : List ℕ) → take (length s - n) (drop n s) ≡ drop n s
-rest n s = take_all (length s - n) (drop n s) (omega (arith, length-drop n s))
 
 -- ---- two rows of bytes
 pub longer : (x y : List ℕ) → (length x ≡ length y → ⊥) → same_bytes x y ≡ false

@@ -1,36 +1,47 @@
--- The digits of the library's number are those of the answers.
-use Prim.Native.Nat.{ℕ, zero, suc, ◌+◌, ◌-◌, ◌*◌, ◌/◌, ◌%◌, ◌^◌, ◌≤◌, ◌<◌}
-use mathlib.Core.Path.{◌≡◌}
-use native.Mathlib.Nat.{pow-suc}
-use native.Mathlib.Omega.{arith}
+-- Digits that are stored from the last to the first are those of the answers.
+use Rattle.std.proofs.Common.{◌≡◌, ℕ, zero, suc, ◌+◌, ◌-◌, ◌/◌, ◌%◌, ◌<◌, ◌≤◌, List, [], ◌∷◌, ◌++◌, length, drop, add-one, set, sym, ◌∙◌, arith, length-set}
+use Rattle.std.proofs.lemmas.List.{drop-set, append_assoc, append-nil}
 use borrow.Author.Tests.{lt-ltb, le-ltb}
-use Rattle.io.specs.Digits.{hex_digit_ascii, last_digits, IsDigitCount}
+use Rattle.laws.proofs.Lists.{done}
 use Rattle.text.specs.Writing.{spelled}
 
-last : (n : ℕ) → hex_digit_ascii (n % 10) ≡ 48 + n % 10
-last n = rw (lt-ltb (n % 10) 10 (omega arith))
+-- what is left of a number is to stand before what stands there
+pub record Written (n at rest : ℕ) (digits : List ℕ) : Type 0 where
+  pub room : length digits ≡ 20
+  pub within : at ≤ 20
+  pub text : spelled at rest ++ drop at digits ≡ spelled 20 n
 
-positive : (j : ℕ) → 0 < 10 ^ j
-positive zero = omega arith
-positive (suc j) = omega (arith, positive j, pow-suc 10 j)
+pub none : (n : ℕ) (digits : List ℕ) → length digits ≡ 20 → Written n 20 n digits
+none n digits h = record { room = h; within = omega arith; text = rw (done digits 20 (omega arith)) (append-nil (spelled 20 n)) }
 
-row : (j f n : ℕ) → n < 10 ^ suc f → n < 10 ^ suc j → (0 < j → 10 ^ j ≤ n) → last_digits 10 (suc j) n ≡ spelled (suc f) n
+stored : (k rest : ℕ) (digits : List ℕ) → length digits ≡ 20 → suc k ≤ 20 → drop k (set digits k (48 + rest % 10)) ≡ (48 + rest % 10) ∷ drop (suc k) digits
+stored k rest digits h l =
+    let i : k < length digits = omega arith in
+    rw (drop-set digits k (48 + rest % 10) i, add-one k)
+
+pub first : (n at rest : ℕ) (digits : List ℕ) → Written n at rest digits → 0 < at → rest < 10
+    → drop (at - 1) (set digits (at - 1) (48 + rest % 10)) ≡ spelled 20 n
 unfolding spelled
-row zero f n h k l =
-    let s : n < 10 = omega (arith, k, pow-suc 10 0) in
-    rw (lt-ltb n 10 s, last n)
-row (suc j) zero n h k l = absurd (omega (arith, h, pow-suc 10 0, pow-suc 10 j, positive j, l (omega arith)))
-row (suc j) (suc f) n h k l =
-    let p : 10 ^ suc j ≡ 10 ^ j * 10 = pow-suc 10 j in
-    let q : 10 ^ suc (suc j) ≡ 10 ^ suc j * 10 = pow-suc 10 (suc j) in
-    let r : 10 ^ suc (suc f) ≡ 10 ^ suc f * 10 = pow-suc 10 (suc f) in
-    let m : 10 ^ suc j ≤ n = l (omega arith) in
-    let o : 0 < 10 ^ j = positive j in
-    rw (le-ltb n 10 (omega arith), last n, row j f (n / 10) (omega arith) (omega arith) (λ z. omega arith))
+first n zero rest digits w h l = absurd (omega arith)
+first n (suc k) rest digits w h l =
+    let e : suc k - 1 ≡ k = omega arith in
+    let t = rw (lt-ltb rest 10 l) at w.text in
+    rw e (stored k rest digits w.room w.within ∙ t)
 
-pub spells : (k n : ℕ) → n < 18446744073709551616 → IsDigitCount 10 1 n k → last_digits 10 k n ≡ spelled 20 n
-spells zero n h e = absurd (omega (arith, e.0))
-spells (suc j) n h e = row j 19 n (omega arith) e.1 (λ z. by (e.2 (omega arith)))
-  where
-    by : 10 ^ (suc j - 1) ≤ n → 10 ^ j ≤ n
-    by l = let s : suc j - 1 ≡ j = omega arith in rw s at l
+pub more : (n at rest : ℕ) (digits : List ℕ) → Written n at rest digits → 0 < at → 10 ≤ rest
+    → Written n (at - 1) (rest / 10) (set digits (at - 1) (48 + rest % 10))
+unfolding spelled
+more n zero rest digits w h l = absurd (omega arith)
+more n (suc k) rest digits w h l =
+    let e : suc k - 1 ≡ k = omega arith in
+    let t = rw (le-ltb rest 10 l) at w.text in
+    rw e (record {
+      room = length-set digits k (48 + rest % 10) ∙ w.room;
+      within = omega (arith, w.within);
+      text = rw (stored k rest digits w.room w.within) (sym (append_assoc (spelled k (rest / 10)) ((48 + rest % 10) ∷ []) (drop (suc k) digits)) ∙ t);
+    })
+
+pub all : (n at rest : ℕ) (digits : List ℕ) → Written n at rest digits → at ≤ 0 → drop at digits ≡ spelled 20 n
+unfolding spelled
+all n zero rest digits w h = w.text
+all n (suc k) rest digits w h = absurd (omega arith)

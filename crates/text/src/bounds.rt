@@ -6,7 +6,7 @@ use crate::numbers::Small;
 use crate::{numbers, tokens};
 use time::Bound;
 
-#[derive(Drop)]
+#[derive(Clone, Copy)]
 pub enum Limit {
     Is(Bound),
     Bad,
@@ -30,6 +30,7 @@ fn excluded(n: Small) -> Limit
     }
 }
 
+#[tactic(auto, unfolding(crate::specs::Bounds::limit_of))]
 pub fn read_limit(token: &[u8]) -> Limit
     ensures { result ≡ limit_of token.now }
 {

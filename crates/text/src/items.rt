@@ -9,7 +9,7 @@ use grammar::items::{Binary, Item, Unary};
 use grammar::values::Val;
 
 // What a token stands for: an item, or `x`, an item that is none.
-#[derive(Drop)]
+#[derive(Clone, Copy)]
 pub enum Symbol {
     Item(Item),
     Nothing,
@@ -17,6 +17,7 @@ pub enum Symbol {
 }
 
 // A token of one byte.
+#[tactic(auto, unfolding(crate::specs::Items::letter_of))]
 fn letter(byte: u8) -> Symbol
     ensures { result ≡ letter_of byte }
 {
@@ -59,6 +60,7 @@ fn variable(n: Small) -> Symbol
 }
 
 // A token of two bytes or more: what follows its first byte decides.
+#[tactic(auto, unfolding(crate::specs::Items::long_of))]
 fn longer(byte: u8, rest: &[u8]) -> Symbol
     ensures { result ≡ long_of byte rest.now }
 {
@@ -77,6 +79,7 @@ fn longer(byte: u8, rest: &[u8]) -> Symbol
 }
 
 // The item of a token.
+#[tactic(auto, unfolding(crate::specs::Items::symbol_of))]
 pub fn read_symbol(token: &[u8]) -> Symbol
     ensures { result ≡ symbol_of token.now }
 {
@@ -88,6 +91,7 @@ pub fn read_symbol(token: &[u8]) -> Symbol
 }
 
 // The word of a token's item; 0 is the word of none.
+#[tactic(auto, unfolding(crate::specs::Items::symbol_word))]
 pub fn read_word(token: &[u8]) -> Number
     ensures { result ≡ word_at token.now }
 {
@@ -99,7 +103,7 @@ pub fn read_word(token: &[u8]) -> Number
 }
 
 // The words that were read, and where the token after them starts.
-#[derive(Drop)]
+#[derive(Clone, Copy)]
 pub enum Expression {
     Is { count: usize, next: usize },
     Bad,

@@ -1,5 +1,7 @@
 // The tokens of the line language, the lines that they come in, and the writing of answers. Every function takes any bytes:
 // what is no token of its kind is bad, and what has no room is left out.
+#![tactic(auto)]
+
 pub mod answers;
 pub mod bounds;
 pub mod items;

@@ -1,6 +1,7 @@
 // Standard input, line by line. It comes in pieces, and a line may lie in several of them.
 use crate::{output, tokens};
-use libc::STDIN_FILENO;
+use std::io;
+use std::io::Read;
 
 // The longest line, without its end.
 pub const LONGEST: usize = 4096;
@@ -8,8 +9,11 @@ pub const LONGEST: usize = 4096;
 // What a line is read into: one byte more, so that a line that is too long shows by its length.
 pub const ROOM: usize = 4097;
 
+// What a piece is read into.
+pub const PIECE: usize = 4096;
+
 // How long the line is so far, and whether it is whole. The bytes of the piece from `at` to `count` are not yet taken.
-#[derive(Drop)]
+#[derive(Clone, Copy)]
 pub struct Reader {
     pub length: usize,
     pub whole: bool,
@@ -50,53 +54,61 @@ fn take(line: &mut [u8], length: usize, piece: &[u8], at: usize) -> Reader {
 }
 
 // Reads the next piece where the last is used up. At the end of the input it is empty.
-fn refill(bytes: &mut [u8], reader: Reader) -> Reader {
+fn refill(from: &mut impl Read, bytes: &mut [u8], reader: Reader) -> io::Result<Reader> {
     if reader.at < reader.count {
-        return reader;
+        return Ok(reader);
     }
-    let got = libc::read(STDIN_FILENO, bytes);
-    Reader {
+    let count = from.read(bytes)?;
+    Ok(Reader {
         length: reader.length,
         whole: false,
         at: 0,
-        count: io::count(got, bytes),
-    }
+        count,
+    })
 }
 
 // Goes on with a line by one piece. The last line may lack its end.
-fn go_on(line: &mut [u8], bytes: &mut [u8], reader: Reader) -> Reader {
-    let now = refill(bytes, reader);
+fn go_on(
+    from: &mut impl Read,
+    line: &mut [u8],
+    bytes: &mut [u8],
+    reader: Reader,
+) -> io::Result<Reader> {
+    let now = refill(from, bytes, reader)?;
     let count = now.count;
     if count == 0 {
-        return Reader {
+        return Ok(Reader {
             length: now.length,
             whole: 0 < now.length,
             at: 0,
             count: 0,
-        };
+        });
     }
-    take(line, now.length, tokens::part(bytes, count), now.at)
+    Ok(take(line, now.length, tokens::part(bytes, count), now.at))
 }
 
-// Reads the next line; where there is none it is not whole. Nothing says that the input ends, so the turns are counted down
-// from a number that no run uses up.
-pub fn read_line(line: &mut [u8], bytes: &mut [u8], reader: Reader) -> Reader {
+// Reads the next line; where there is none it is not whole. Nothing says that the input ends, so the turns are counted, up to
+// a number that no run comes to.
+pub fn read_line(
+    from: &mut impl Read,
+    line: &mut [u8],
+    bytes: &mut [u8],
+    reader: Reader,
+) -> io::Result<Reader> {
     let mut now = Reader {
         length: 0,
         whole: false,
         at: reader.at,
         count: reader.count,
     };
-    let mut turns = u64::MAX;
-    while 0 < turns {
-        now = go_on(line, bytes, now);
+    for _ in 0..u64::MAX {
+        now = go_on(from, line, bytes, now)?;
         if now.whole {
-            return now;
+            return Ok(now);
         }
         if now.count == 0 {
-            return now;
+            return Ok(now);
         }
-        turns -= 1;
     }
-    now
+    Ok(now)
 }

@@ -5,7 +5,7 @@ use crate::{numbers, tokens, values};
 use grammar::values::{Slot, Val};
 
 // Values, how many there are, and where the token after them starts. The slots past them are false.
-#[derive(Drop)]
+#[derive(Clone, Copy)]
 pub struct Values {
     pub slots: [Slot; 16],
     pub count: usize,
@@ -37,7 +37,7 @@ pub fn read_values(line: &[u8], at: usize) -> Values {
 }
 
 // The same of numbers.
-#[derive(Drop)]
+#[derive(Clone, Copy)]
 pub struct Numbers {
     pub numbers: [u32; 8],
     pub count: usize,
@@ -75,7 +75,7 @@ pub fn part(numbers: &[u32], n: usize) -> &[u32] {
 }
 
 // How many kinds there are.
-#[derive(Drop)]
+#[derive(Clone, Copy)]
 pub enum Kinds {
     Are(usize),
     Bad,

@@ -4,25 +4,26 @@ ghost use Rattle.text.specs.Numbers.{with_digit, up_to, number_of, small_of, pos
 
 use crate::tokens;
 
-#[derive(Drop)]
+#[derive(Clone, Copy)]
 pub enum Number {
     Is(u64),
     Bad,
 }
 
-#[derive(Drop)]
+#[derive(Clone, Copy)]
 pub enum Small {
     Is(u32),
     Bad,
 }
 
-#[derive(Drop)]
+#[derive(Clone, Copy)]
 pub enum Integer {
     Is(i32),
     Bad,
 }
 
 // The number that a digit after n gives. The test is made before the sum, which might not fit.
+#[tactic(auto, unfolding(crate::specs::Numbers::with_digit, crate::specs::Numbers::number_if))]
 fn with_digit(n: u64, byte: u8, largest: u64) -> Number
     ensures { result ≡ with_digit largest n byte }
 {
@@ -43,6 +44,7 @@ fn with_digit(n: u64, byte: u8, largest: u64) -> Number
 }
 
 // Digits alone, of a number up to the largest.
+#[tactic(auto, using(crate::proofs::Decimal::stops_there, crate::proofs::Decimal::goes_on, crate::proofs::Decimal::ends_there, crate::proofs::Decimal::digit_small))]
 fn digits(token: &[u8], largest: u64) -> Number
     ensures { result ≡ up_to largest 0 token.now }
 {
@@ -57,6 +59,7 @@ fn digits(token: &[u8], largest: u64) -> Number
 }
 
 // A number of 1 to `most` digits, up to the largest.
+#[tactic(auto, unfolding(crate::specs::Numbers::number_of))]
 pub fn read_number(token: &[u8], most: usize, largest: u64) -> Number
     ensures { result ≡ number_of most largest token.now }
 {
@@ -70,6 +73,7 @@ pub fn read_number(token: &[u8], most: usize, largest: u64) -> Number
 }
 
 // A number of 32 bits.
+#[tactic(auto, using(crate::proofs::Decimal::small), unfolding(crate::specs::Numbers::small_of, crate::specs::Numbers::narrow))]
 pub fn read_small(token: &[u8]) -> Small
     ensures { result ≡ small_of token.now }
 {
@@ -86,6 +90,7 @@ pub fn read_wide(token: &[u8]) -> Number
     read_number(token, 20, 18446744073709551615)
 }
 
+#[tactic(auto, using(crate::proofs::Decimal::small), unfolding(crate::specs::Numbers::positive))]
 fn from_zero(token: &[u8]) -> Integer
     ensures { result ≡ positive (number_of 10 2147483647 token.now) }
 {
@@ -96,6 +101,7 @@ fn from_zero(token: &[u8]) -> Integer
 }
 
 // What stands after a minus.
+#[tactic(auto, using(crate::proofs::Decimal::small), unfolding(crate::specs::Numbers::negative))]
 fn below_zero(token: &[u8]) -> Integer
     ensures { result ≡ negative (number_of 10 2147483648 token.now) }
 {
@@ -109,6 +115,7 @@ fn below_zero(token: &[u8]) -> Integer
 }
 
 // An integer of 32 bits.
+#[tactic(auto, unfolding(crate::specs::Numbers::integer_of))]
 pub fn read_integer(token: &[u8]) -> Integer
     ensures { result ≡ integer_of token.now }
 {

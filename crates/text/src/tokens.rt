@@ -6,6 +6,7 @@ ghost use Rattle.text.specs.Tokens.{token_of, next_of, same_bytes};
 const BLANK: u8 = b' ';
 
 // The end of the token that starts at a place.
+#[tactic(auto, using(crate::proofs::Bytes::blank, crate::proofs::Bytes::letter, crate::proofs::Bytes::past))]
 fn token_end(line: &[u8], at: usize) -> usize
     ensures { result ≡ at + length (token_of (drop at line.now)) }
 {
@@ -20,6 +21,7 @@ fn token_end(line: &[u8], at: usize) -> usize
 }
 
 // The token that starts at a place.
+#[tactic(auto, using(crate::proofs::Bytes::past, crate::proofs::Bytes::within, crate::proofs::Bytes::front))]
 pub fn token(line: &[u8], at: usize) -> &[u8]
     ensures { result.now ≡ token_of (drop at line.now) }
 {
@@ -31,6 +33,7 @@ pub fn token(line: &[u8], at: usize) -> &[u8]
 }
 
 // Where the token after the one at a place starts; past the line's length after the last one.
+#[tactic(auto, unfolding(crate::specs::Tokens::next_of))]
 pub fn next(line: &[u8], at: usize) -> usize
     ensures { result ≡ next_of line.now at }
 {
@@ -49,6 +52,7 @@ pub fn ended(line: &[u8], at: usize) -> bool
 }
 
 // Whether a token is a word.
+#[tactic(auto, using(crate::proofs::Bytes::longer, crate::proofs::Bytes::differ, crate::proofs::Bytes::agree, crate::proofs::Bytes::equal))]
 pub fn is(token: &[u8], word: &[u8]) -> bool
     ensures { result ≡ same_bytes token.now word.now }
 {

@@ -7,7 +7,7 @@ use crate::{numbers, tokens};
 use grammar::values;
 use grammar::values::Val;
 
-#[derive(Drop)]
+#[derive(Clone, Copy)]
 pub enum Value {
     Is(Val),
     Bad,
@@ -22,6 +22,7 @@ fn integer(n: Integer) -> Value
     }
 }
 
+#[tactic(auto, unfolding(crate::specs::Values::value_of))]
 pub fn read_value(token: &[u8]) -> Value
     ensures { result ≡ value_of token.now }
 {

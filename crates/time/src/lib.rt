@@ -1,4 +1,6 @@
 // Time ranges (time.rs): each end is included, excluded or absent, and a range may be empty.
+#![tactic(auto)]
+
 ghost use Rattle.std.specs.Prelude.{◌≡◌};
 ghost use Rattle.time.specs.Time.{lower_met, upper_met, range_of, in_range, later_time, shifted_bound, shifted_range};
 
@@ -7,14 +9,14 @@ pub type Time = u32;
 // The last time there is.
 pub const LAST: u32 = 4294967295;
 
-#[derive(Drop)]
+#[derive(Clone, Copy)]
 pub enum Bound {
     Included(Time),
     Excluded(Time),
     Unbounded,
 }
 
-#[derive(Drop)]
+#[derive(Clone, Copy)]
 pub struct TimeRange {
     pub lower: Bound,
     pub upper: Bound,

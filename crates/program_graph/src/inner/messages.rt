@@ -20,7 +20,7 @@ use graph_tables::{inner, layout, runs};
 use run_steps::inner::{effects, messages};
 
 // A send: its answer, and its values if it is accepted.
-#[derive(Drop)]
+#[derive(Clone, Copy)]
 pub struct Said {
     pub answer: Done,
     pub message: Message,

@@ -14,7 +14,7 @@ use graph_tables::ids::Action;
 use graph_tables::{inner, sizes};
 
 // An entry, or how many are to be passed over behind a list's end.
-#[derive(Drop)]
+#[derive(Clone, Copy)]
 pub enum Sought {
     Found(Entry),
     Left(usize),

@@ -14,7 +14,7 @@ use graph_tables::handed::Message;
 use graph_tables::{inner, sizes};
 
 // The values of a send, what is left of the word, and whether each expression had a value.
-#[derive(Drop)]
+#[derive(Clone, Copy)]
 pub struct Speech {
     pub values: [Slot; sizes::MESSAGE],
     pub word: u64,

@@ -1,0 +1,12 @@
+use Rattle.c_words.specs.Handed.{limit_from}
+use borrow.Author.Rules.{rules}
+use Rattle.c_words.proofs.inner.handed.limit_at.Goals as goal
+
+pub returns : goal.returns
+unfolding limit_from
+returns c =
+    let u = c.before in
+    let x = u.before in
+    let l = x.before in
+    let w = l.before in
+    rw (c.new.ensures, u.bound_from-upper.ensures, x.word_at-3.ensures, l.bound_from-lower.ensures, w.word_at-2.ensures, w.word_at.ensures)

@@ -1,0 +1,7 @@
+use Rattle.c_words.specs.Handed.{var_from}
+use borrow.Author.Rules.{rules}
+use Rattle.c_words.proofs.inner.handed.var_at.Goals as goal
+
+pub returns : goal.returns
+unfolding var_from
+returns c = rw c.number_at.ensures

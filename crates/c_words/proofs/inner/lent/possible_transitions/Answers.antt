@@ -1,0 +1,23 @@
+use borrow.Author.Rules.{rules}
+use Rattle.laws.proofs.Ladder.{passed, stopped}
+use Rattle.laws.proofs.Tests.{held, failed}
+use Rattle.program_graph.specs.Transitions.{possible_of}
+use Rattle.c_words.specs.Lent.{possible_at}
+use Rattle.c_words.proofs.LentLaws.{table_sound, run_of, fits_table_lem}
+use Rattle.c_words.proofs.inner.lent.possible_transitions.Goals as goal
+
+pub returns-then-not-run_fits : goal.returns-then-not-run_fits
+unfolding possible_at
+returns-then-not-run_fits c = stopped _ _ (failed c.run_fits.ensures c.if-not-run_fits.true-raw)
+
+pub listed_on-requires : goal.listed_on-requires
+listed_on-requires c =
+    let fit = held c.run_fits.ensures c.if-not-run_fits.false-raw in
+    (table_sound _ _ fit, run_of _ _ fit)
+
+pub returns : goal.returns
+unfolding possible_at possible_of
+returns c =
+    let e = c.before in
+    let fit = held e.run_fits.ensures e.if-not-run_fits.false-raw in
+    passed _ fit (passed _ (fits_table_lem _ _ fit) c.listed_on.ensures)

@@ -1,0 +1,14 @@
+use Prim.Native.Nat.{ℕ, zero, suc, ◌+◌, ◌-◌, ◌*◌, ◌/◌, ◌%◌, ◌≤◌, ◌<◌}
+use mathlib.Core.Path.{◌≡◌, refl, sym, ap, ◌∙◌}
+use native.Mathlib.Omega.{arith}
+use lib.ListN.{length, get_or, set, length-set}
+use borrow.Author.Rules.{rules}
+use Rattle.channel_system.specs.Steps.{locations_of}
+use Rattle.channel_system.proofs.PostLaws.{locations_length, location_at, Copied, copied_more, take_copied}
+use Rattle.channel_system.proofs.inner.posts.locations.Given as goal
+
+abbrev pub invariant-loop-i : goal.invariant-loop-i
+invariant-loop-i l = (l.i ≤ l.n) × (length l.to ≡ length l.initial.to) × Copied l.to (locations_of l.posts) l.i
+
+abbrev pub decreases-loop-i : goal.decreases-loop-i
+decreases-loop-i l = l.n - l.i

@@ -1,0 +1,30 @@
+use Prim.Native.Nat.{ℕ, zero, suc, ◌+◌, ◌-◌, ◌*◌, ◌/◌, ◌%◌, ◌≤◌, ◌<◌}
+use mathlib.Core.Path.{◌≡◌, refl, sym, ap, ◌∙◌}
+use native.Mathlib.Omega.{arith}
+use lib.ListN.{length, get_or, set, length-set}
+use borrow.Author.Rules.{rules}
+use mathlib.Core.Bool.{true, not}
+use borrow.Author.Tests.{eq-eqb, ne_eqb}
+use Rattle.laws.specs.Below.{all_below}
+use Rattle.laws.proofs.BelowLaws.{all_none}
+use Rattle.graph_tables.proofs.FormedLaws.{turn_fails, turn_holds, turns_end}
+use Rattle.channel_system.specs.Steps.{own_post}
+use Rattle.channel_system.proofs.inner.posts.own.Goals as goal
+
+pub loop-i-init : goal.loop-i-init
+loop-i-init c = (search rules, all_none _)
+
+pub returns-then-posts-i : goal.returns-then-posts-i
+unfolding own_post
+returns-then-posts-i c =
+    let l = c.before.before.before in
+    turn_fails _ _ l.loop-i.i (omega arith) refl (ap not (ne_eqb _ _ c.if-posts-i.true))
+
+pub loop-i-preserved : goal.loop-i-preserved
+unfolding own_post
+loop-i-preserved c =
+    let l = c.before.before.before in
+    turn_holds _ _ l.loop-i.i (omega arith) l.loop-i.invariant.1 refl (ap not (eq-eqb _ _ c.if-posts-i.false))
+
+pub returns : goal.returns
+returns c = let l = c.before in turns_end _ _ l.loop-i.i (omega arith) (omega arith) l.loop-i.invariant.1

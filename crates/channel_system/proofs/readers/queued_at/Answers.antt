@@ -1,0 +1,16 @@
+use borrow.Author.Rules.{rules}
+use borrow.Author.Tests.{lt-ltb, le-ltb}
+use mathlib.Core.Path.{ap, ◌∙◌}
+use Rattle.channel_system.specs.declared.answers.Queued.TheVariants.{At}
+use Rattle.channel_system.proofs.readers.queued_at.Goals as goal
+
+pub returns-then-stored-k : goal.returns-then-stored-k
+returns-then-stored-k c = rw (le-ltb _ _ (rw c.stored.ensures at c.if-stored-k.true))
+
+pub value_at-requires : goal.value_at-requires
+value_at-requires c = (c.requires, rw c.stored.ensures at c.if-stored-k.false)
+
+pub returns : goal.returns
+returns c =
+    let e = c.before in
+    rw (lt-ltb _ _ (rw e.stored.ensures at e.if-stored-k.false)) (ap At c.value_at.ensures)

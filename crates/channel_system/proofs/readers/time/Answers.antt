@@ -1,0 +1,34 @@
+use mathlib.Core.Path.{ap}
+use native.Mathlib.Omega.{arith}
+use borrow.Author.Rules.{rules}
+use Rattle.laws.proofs.Ladder.{passed, stopped}
+use Rattle.laws.proofs.Tests.{held, failed}
+use Rattle.channel_system.specs.Readers.{now_of}
+use Rattle.channel_system.specs.declared.answers.Now.TheVariants.{Is}
+use Rattle.channel_system.proofs.FittingLaws.{fits_state}
+use Rattle.channel_system.proofs.readers.time.Goals as goal
+
+pub returns-then-not-system_fits : goal.returns-then-not-system_fits
+unfolding now_of
+returns-then-not-system_fits c = stopped _ _ (failed c.system_fits.ensures c.if-not-system_fits.true-raw)
+
+pub time_of-requires : goal.time_of-requires
+time_of-requires c =
+    let z = c.before.before.before.before in
+    (fits_state z.args.t.now z.args.s.now (held c.system_fits.ensures c.if-not-system_fits.false-raw)).words
+
+pub overflow_cast-result : goal.overflow_cast-result
+overflow_cast-result c =
+    let e = c.before in
+    let z = c.before.before.before.before.before in
+    omega (
+      arith,
+      c.time_of.ensures,
+      (fits_state z.args.t.now z.args.s.now (held e.system_fits.ensures e.if-not-system_fits.false-raw)).time,
+    )
+
+pub returns : goal.returns
+unfolding now_of
+returns c =
+    let e = c.before in
+    passed _ (held e.system_fits.ensures e.if-not-system_fits.false-raw) (ap Is c.time_of.ensures)

@@ -1,0 +1,38 @@
+use Prim.Native.Nat.{◌-◌, ◌≤◌}
+use mathlib.Core.Path.{◌≡◌, sym, ap, subst, ◌∙◌}
+use mathlib.Core.Bool.{true}
+use native.Mathlib.Omega.{arith}
+use lib.ListN.{length}
+use borrow.Author.Rules.{rules}
+use Rattle.laws.specs.Below.{all_below}
+use Rattle.laws.proofs.BelowLaws.{all_none, all_more}
+use Rattle.laws.proofs.Tests.{held, failed}
+use Rattle.run_steps.proofs.LowestLaws.{lowest_none, lowest_at}
+use Rattle.program_graph.specs.Inner.{run_at}
+use Rattle.explainer.specs.Cause.{ready_in}
+use Rattle.explainer.proofs.inner.cause.unready.Goals as goal
+
+pub loop-p-init : goal.loop-p-init
+loop-p-init c = (search rules, all_none _)
+
+pub is_ready-requires : goal.is_ready-requires
+is_ready-requires c =
+    let s = c.before.before.before.before.before.before in
+    (s.requires.0, s.requires.1, s.requires.2, s.requires.3, omega arith)
+
+pub returns-then-not-is_ready : goal.returns-then-not-is_ready
+returns-then-not-is_ready c =
+    let l = c.before.before.before in
+    let s = l.before.before.before.before.before in
+    sym (lowest_at _ _ l.loop-p.p (omega (arith, s.requires.3)) l.loop-p.invariant.1 (failed c.is_ready.ensures c.if-not-is_ready.true-raw))
+
+pub loop-p-preserved : goal.loop-p-preserved
+loop-p-preserved c = (omega arith, all_more _ _ c.loop-p.invariant.1 (held c.is_ready.ensures c.if-not-is_ready.false-raw))
+
+pub returns : goal.returns
+returns c =
+    let l = c.before in
+    let s = l.before.before.before.before.before in
+    let e : l.loop-p.p ≡ length s.args.posts.now = omega arith in
+    s.requires.3 ∙ sym (lowest_none _ _ (subst (λ n. all_below n (ready_in s.args.t.now (run_at s.args.r.now) s.args.a s.args.posts.now) ≡ true)
+    (e ∙ s.requires.3) l.loop-p.invariant.1))

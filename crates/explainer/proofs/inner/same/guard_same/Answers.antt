@@ -1,0 +1,51 @@
+use Prim.Native.Nat.{◌+◌, ◌-◌, ◌≤◌, ◌<◌}
+use mathlib.Core.Path.{◌≡◌, sym, ap, ◌∙◌}
+use native.Mathlib.Omega.{arith}
+use lib.ListN.{length}
+use borrow.Author.Rules.{rules}
+use Rattle.graph_tables.specs.Sizes.{item_room, transition_room}
+use Rattle.graph_tables.specs.Words.{guard_length}
+use Rattle.explainer.specs.Same.{guard_same}
+use Rattle.explainer.proofs.SameLaws.{guard_lent, guard_built}
+use Rattle.explainer.proofs.inner.same.guard_same.Goals as goal
+use Rattle.explainer.proofs.inner.same.guard_same.Goals.{Start}
+
+-- its items are few
+short : (s : Start) → guard_length s.args.t.now s.args.k ≤ item_room
+short s = (s.requires.0.transition _ s.requires.3).guard.short
+
+pub guard_at-from-requires : goal.guard_at-from-requires
+guard_at-from-requires c = let s = c.before.before in (s.requires.2, omega (arith, s.requires.3, s.requires.0.counts.transitions))
+
+pub guard_length-requires : goal.guard_length-requires
+guard_length-requires c = let s = c.before.before.before in (s.requires.0.words, omega (arith, s.requires.3, s.requires.0.counts.transitions))
+
+pub overflow_add-to : goal.overflow_add-to
+overflow_add-to c =
+    let s = c.before.before.before.before in
+    omega (arith, short (goal.at.overflow_add-to c).Start, s.requires.2, s.requires.3, s.requires.0.counts.transitions, c.guard_length.ensures, c.guard_at-from.ensures)
+
+pub guard_items-requires : goal.guard_items-requires
+guard_items-requires c = let s = c.before.before.before.before.before in (s.requires.0.words, omega (arith, s.requires.3, s.requires.0.counts.transitions), short (goal.at.guard_items-requires c).Start)
+
+pub all_same-requires : goal.all_same-requires
+all_same-requires c =
+    let n = c.before.before in
+    let a = n.before in
+    let s = a.before.before.before in
+    let few : s.args.k < transition_room = omega (arith, s.requires.3, s.requires.0.counts.transitions) in
+    let from = a.guard_at-from.result in
+    let e : from + n.guard_length.result - from ≡ n.guard_length.result = omega arith in
+    rw (e, n.guard_length.ensures, a.guard_at-from.ensures, c.guard_items.ensures)
+    (guard_lent s.args.guards.now s.args.g s.args.k _ s.requires.1 s.requires.2 few (short (goal.at.all_same-requires c).Start)
+    ∙ sym (guard_built s.args.t.now s.args.k _ s.requires.0.words few (short (goal.at.all_same-requires c).Start)))
+
+pub returns : goal.returns
+unfolding guard_same
+returns c =
+    let i = c.before in
+    let n = i.before.before in
+    let a = n.before in
+    let from = a.guard_at-from.result in
+    let e : from + n.guard_length.result - from ≡ n.guard_length.result = omega arith in
+    c.all_same.ensures ∙ rw (e, n.guard_length.ensures, a.guard_at-from.ensures, i.guard_items.ensures)

@@ -1,0 +1,23 @@
+use mathlib.Core.Path.{refl}
+use lib.ListN.{length}
+use borrow.Author.Tests.{le-leb, lt-leb}
+use Rattle.laws.specs.Ladder.{unless}
+use Rattle.c_words.specs.Given.{answering}
+use borrow.Author.Rules.{rules}
+use Rattle.export.proofs.building.njn_system_new_receive.Goals as goal
+
+pub returns-then-out-lt-NUMBER : goal.returns-then-out-lt-NUMBER
+unfolding answering unless
+returns-then-out-lt-NUMBER c =
+    let z = c.before.before.before.before in
+    rw (lt-leb 1 (length z.args.out.now) c.if-out-lt-NUMBER.true) (refl, refl, refl)
+
+pub returns : goal.returns
+unfolding answering unless
+returns c =
+    let a = c.before.before in
+    let b = a.before.before.before.before in
+    let d = b.before in
+    let e = d.before.before in
+    let z = e.before.before.before.before in
+    rw (a.placed.ensures.0, a.placed.ensures.1, b.new_receive.ensures.0, b.new_receive.ensures.1, d.vars_of.ensures, le-leb 1 (length z.args.out.now) e.if-out-lt-NUMBER.false) (refl, refl, refl)

@@ -1,0 +1,11 @@
+use mathlib.Core.Path.{refl}
+use Rattle.laws.specs.Ladder.{unless}
+use Rattle.c_words.specs.Given.{answering}
+use borrow.Author.Rules.{rules}
+use Rattle.export.proofs.graphs.njn_graph_new_process.Goals as goal
+
+pub returns : goal.returns
+unfolding answering unless
+returns c =
+    let a = c.before.before.before in
+    rw (c.done.ensures, a.new_process.ensures.0, a.new_process.ensures.1) (refl, refl)

@@ -1,0 +1,11 @@
+use mathlib.Core.Path.{refl}
+use borrow.Author.Rules.{rules}
+use Rattle.laws.specs.Ladder.{unless}
+use Rattle.c_words.specs.Given.{answering}
+use Rattle.export.proofs.runs.njn_run_wait.Goals as goal
+
+pub returns : goal.returns
+unfolding answering unless
+returns c =
+    let a = c.before.before.before in
+    rw (c.done.ensures, a.wait.ensures.0, a.wait.ensures.1) (refl, refl)

@@ -1,0 +1,16 @@
+use Prim.Native.Nat.{◌^◌}
+use lib.ListN.{drop}
+use Rattle.grammar.specs.Draws.{draws_of}
+use Rattle.grammar.proofs.DrawLaws.{left_next, left_done}
+use Prim.Native.Nat.{ℕ, ◌+◌, ◌-◌, ◌/◌, ◌≤◌}
+use mathlib.Core.Path.{◌≡◌, sym, ap, ◌∙◌}
+use native.Mathlib.Omega.{arith}
+use lib.ListN.{length}
+use borrow.Author.Rules.{rules}
+use Rattle.grammar.proofs.draws.rest.Given as goal
+
+abbrev pub invariant-loop-at : goal.invariant-loop-at
+invariant-loop-at l = (l.at ≤ length l.items) × (l.bits / 2 ^ draws_of (drop l.at l.items) ≡ l.word / 2 ^ draws_of l.items)
+
+abbrev pub decreases-loop-at : goal.decreases-loop-at
+decreases-loop-at l = length l.items - l.at

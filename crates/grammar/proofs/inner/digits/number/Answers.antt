@@ -1,0 +1,10 @@
+use borrow.Author.Tests.{eq-eqb, ne_eqb}
+use mathlib.Core.Path.{refl}
+use Rattle.laws.proofs.BelowLaws.{and_yes, and_no}
+use Rattle.grammar.proofs.inner.digits.number.Goals as goal
+
+pub returns-then-w-ne-NUMBER : goal.returns-then-w-ne-NUMBER
+returns-then-w-ne-NUMBER c = and_no _ (ne_eqb _ _ c.if-w-ne-NUMBER.true)
+
+pub returns : goal.returns
+returns c = and_yes (eq-eqb _ _ c.if-w-ne-NUMBER.false) refl

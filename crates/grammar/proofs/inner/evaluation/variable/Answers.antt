@@ -1,0 +1,13 @@
+use Rattle.grammar.specs.Inner.{held_of}
+use borrow.Author.Tests.{lt-ltb, le-ltb}
+use mathlib.Core.Path.{ap, ◌∙◌}
+use Rattle.grammar.specs.declared.evaluation.Evaluated.TheVariants.{Known}
+use borrow.Author.Rules.{rules}
+use Rattle.grammar.proofs.inner.evaluation.variable.Goals as goal
+
+pub returns-then-n-lt16 : goal.returns-then-n-lt16
+returns-then-n-lt16 c = rw (lt-ltb _ _ c.if-n-lt16.true) (c.of_value.ensures ∙ ap Known c.value_of.ensures)
+
+pub returns : goal.returns
+unfolding held_of
+returns c = rw (le-ltb _ _ c.if-n-lt16.false)

@@ -1,0 +1,14 @@
+use Prim.Native.Nat.{◌+◌, ◌*◌, ◌<◌}
+use mathlib.Core.Path.{◌≡◌, ap, ◌∙◌}
+use native.Mathlib.Omega.{arith}
+use lib.ListN.{length-set}
+use borrow.Author.Rules.{rules}
+use Rattle.grammar.specs.Values.{kind_word}
+use Rattle.grammar.specs.Slots.{kind_in}
+use Rattle.grammar.proofs.inner.slots.put.Goals as goal
+
+pub returns : goal.returns
+returns c =
+    let k : c.word.result ≡ kind_in c.args.x =
+    c.word.ensures ∙ ap kind_word c.kind.ensures in
+    (cc c.payload_of.ensures.0, c.payload_of.ensures.1)

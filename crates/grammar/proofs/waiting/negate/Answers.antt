@@ -1,0 +1,16 @@
+use Prim.Native.Nat.{ℕ, ◌/◌, ◌%◌, ◌≤◌, ◌<◌, ◌^◌}
+use mathlib.Core.Path.{◌≡◌, refl}
+use native.Mathlib.Omega.{arith}
+use Rattle.grammar.proofs.PlaneLaws.{none_changed, left_changed}
+use borrow.Author.Rules.{rules}
+use Rattle.grammar.proofs.waiting.negate.Goals as goal
+
+pub returns-then-integers-ne1 : goal.returns-then-integers-ne1
+returns-then-integers-ne1 c =
+    let e : c.args.integers % 2 ≡ 0 = omega arith in
+    none_changed _ c.ill.ensures (rw e)
+
+pub returns : goal.returns
+returns c =
+    let e : c.args.integers % 2 ≡ 1 = omega arith in
+    left_changed c.requires (rw e)

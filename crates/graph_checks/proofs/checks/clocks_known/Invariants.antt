@@ -1,0 +1,16 @@
+use Prim.Native.Nat.{◌-◌, ◌≤◌}
+use mathlib.Core.Bool.{true}
+use mathlib.Core.Path.{◌≡◌, sym}
+use native.Mathlib.Omega.{arith}
+use borrow.Author.Rules.{rules}
+use Rattle.laws.proofs.BelowLaws.{all_none, all_more, all_fails, all_done}
+use Rattle.laws.proofs.Tests.{held, failed}
+use Rattle.laws.specs.Below.{all_below}
+use Rattle.graph_checks.specs.Checks.{clock_known, clocks_known}
+use Rattle.graph_checks.proofs.checks.clocks_known.Given as goal
+
+abbrev pub invariant-loop-i : goal.invariant-loop-i
+invariant-loop-i l = (l.i ≤ l.i-end) × (all_below l.i (clock_known l.t l.handed) ≡ true)
+
+abbrev pub decreases-loop-i : goal.decreases-loop-i
+decreases-loop-i l = l.i-end - l.i

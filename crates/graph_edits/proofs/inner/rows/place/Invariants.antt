@@ -1,0 +1,17 @@
+use Prim.Native.Nat.{ℕ, ◌+◌, ◌-◌, ◌*◌, ◌≤◌, ◌<◌}
+use mathlib.Core.Path.{◌≡◌, sym, ap, ◌∙◌}
+use native.Mathlib.Omega.{arith}
+use native.Mathlib.Nat.{mul-zero, mul-suc}
+use native.Mathlib.Numerals.{add-one}
+use lib.ListN.{length}
+use borrow.Author.Rules.{rules}
+use Rattle.graph_edits.specs.Rows.{number_at, place_from, place_of}
+use Rattle.graph_edits.proofs.RowLaws.{row_room, place_here, place_next, place_end}
+use Rattle.graph_edits.proofs.inner.rows.place.Given as goal
+
+abbrev pub invariant-loop-i : goal.invariant-loop-i
+invariant-loop-i l =
+    (l.i ≤ l.n) × ((l.at ≡ l.base + l.w * l.i) × (place_of (number_at l.t l.base l.w) l.n l.k ≡ place_from (number_at l.t l.base l.w) l.k l.i (l.n - l.i)))
+
+abbrev pub decreases-loop-i : goal.decreases-loop-i
+decreases-loop-i l = l.n - l.i

@@ -1,0 +1,16 @@
+use Prim.Native.Nat.{◌-◌, ◌≤◌}
+use mathlib.Core.Path.{◌≡◌}
+use mathlib.Core.Bool.{true}
+use native.Mathlib.Omega.{arith}
+use borrow.Author.Rules.{rules}
+use Rattle.laws.specs.Below.{all_below}
+use Rattle.laws.proofs.BelowLaws.{all_none}
+use Rattle.graph_tables.specs.Formed.{location_formed}
+use Rattle.graph_tables.proofs.FormedLaws.{turn_fails, turn_holds, turns_end}
+use Rattle.graph_tables.proofs.formed.all_locations_formed.Given as goal
+
+abbrev pub invariant-loop-i : goal.invariant-loop-i
+invariant-loop-i l = (l.i ≤ l.n) × (all_below l.i (location_formed l.t) ≡ true)
+
+abbrev pub decreases-loop-i : goal.decreases-loop-i
+decreases-loop-i l = l.n - l.i

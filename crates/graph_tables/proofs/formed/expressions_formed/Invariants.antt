@@ -1,0 +1,12 @@
+use Prim.Native.Nat.{◌-◌}
+use native.Mathlib.Omega.{arith}
+use borrow.Author.Rules.{rules}
+use Rattle.graph_tables.specs.Formed.{expression_formed, effect_draws}
+use Rattle.graph_tables.proofs.FormedLaws.{Sums, sums_none, sums_fail, sums_more, sums_end, expression_few}
+use Rattle.graph_tables.proofs.formed.expressions_formed.Given as goal
+
+abbrev pub invariant-loop-e : goal.invariant-loop-e
+invariant-loop-e l = Sums (expression_formed l.t l.a) (effect_draws l.t l.a) l.n l.sum l.e
+
+abbrev pub decreases-loop-e : goal.decreases-loop-e
+decreases-loop-e l = l.n - l.e

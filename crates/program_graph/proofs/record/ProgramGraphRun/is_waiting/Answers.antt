@@ -1,0 +1,18 @@
+use mathlib.Core.Path.{ap}
+use Rattle.laws.proofs.Ladder.{passed, stopped}
+use Rattle.laws.proofs.Tests.{held, failed}
+use Rattle.program_graph.specs.Running.{is_waiting_of}
+use Rattle.program_graph.proofs.RunLaws.{fitting}
+use Rattle.program_graph.specs.declared.answers.Held.TheVariants as Held
+use Rattle.program_graph.proofs.record.ProgramGraphRun.is_waiting.Goals as goal
+
+pub returns-then-not-fits_table : goal.returns-then-not-fits_table
+unfolding is_waiting_of
+returns-then-not-fits_table c = stopped _ _ (failed c.fits_table.ensures c.if-not-fits_table.true-raw)
+
+pub is_waiting-requires : goal.is_waiting-requires
+is_waiting-requires c = fitting _ _ (held c.fits_table.ensures c.if-not-fits_table.false-raw)
+
+pub returns : goal.returns
+unfolding is_waiting_of
+returns c = passed _ (held c.fits_table.ensures c.if-not-fits_table.false-raw) (ap Held.Is c.is_waiting.ensures)

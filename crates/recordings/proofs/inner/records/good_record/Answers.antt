@@ -1,0 +1,21 @@
+use borrow.Author.Tests.{eq-eqb, ne_eqb}
+use Rattle.laws.proofs.Tests.{held, failed}
+use Rattle.laws.proofs.BelowLaws.{and_yes, and_no}
+use Rattle.recordings.specs.Records.{good_record}
+use Rattle.recordings.proofs.inner.records.good_record.Goals as goal
+
+pub returns-then-r-ne0 : goal.returns-then-r-ne0
+unfolding good_record
+returns-then-r-ne0 c = and_no _ (ne_eqb _ _ c.if-r-ne0.true)
+
+pub returns-then-not-zeros : goal.returns-then-not-zeros
+unfolding good_record
+returns-then-not-zeros c =
+    and_yes (eq-eqb _ _ c.if-r-ne0.false) (and_no _ (failed c.zeros.ensures c.if-not-zeros.true-raw))
+
+pub returns : goal.returns
+unfolding good_record
+returns c =
+    let f = c.before in
+    and_yes (eq-eqb _ _ f.if-r-ne0.false)
+    (and_yes (held f.zeros.ensures f.if-not-zeros.false-raw) c.good_kind.ensures)

@@ -1,0 +1,17 @@
+use mathlib.Core.Path.{refl}
+use native.Mathlib.Omega.{arith}
+use lib.ListN.{length-set}
+use lib.ListN.{replicate}
+use Rattle.recordings.proofs.StoreLaws.{number_then}
+use Rattle.recordings.proofs.inner.writes.put_head.Goals as goal
+
+pub put_zeros-requires : goal.put_zeros-requires
+put_zeros-requires c = simp length-set (omega arith)
+
+pub returns : goal.returns
+returns c =
+    let z = c.before.before in
+    let n = z.before.before.before.before in
+    let s = n.before.before.before in
+    let l = number_then s.args.block.now 0 4 s.args.place 4 5 s.args.count (replicate 23 0) refl refl in
+    cc (z.put_zeros.ensures, n.put_number.ensures, l)

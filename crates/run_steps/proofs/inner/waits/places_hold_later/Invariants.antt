@@ -1,0 +1,15 @@
+use Prim.Native.Nat.{◌≤◌, ◌-◌}
+use mathlib.Core.Path.{◌≡◌}
+use mathlib.Core.Bool.{true}
+use lib.ListN.{length}
+use Rattle.laws.specs.Below.{all_below}
+use Rattle.graph_tables.specs.Words.{clock_count}
+use Rattle.run_steps.specs.Steps.{place_holds, shifted_below}
+use Rattle.run_steps.proofs.inner.waits.places_hold_later.Given as goal
+
+abbrev pub invariant-loop-p : goal.invariant-loop-p
+invariant-loop-p l =
+    (l.p ≤ length l.places) × (all_below l.p (place_holds l.t l.places (shifted_below l.clocks l.delta (clock_count l.t))) ≡ true)
+
+abbrev pub decreases-loop-p : goal.decreases-loop-p
+decreases-loop-p l = length l.places - l.p

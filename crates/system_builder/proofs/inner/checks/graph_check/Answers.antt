@@ -1,0 +1,36 @@
+use mathlib.Core.Bool.{true}
+use Rattle.laws.proofs.Tests.{held, failed}
+use Rattle.laws.proofs.Ladder.{passed, stopped}
+use borrow.Author.Tests.{lt-ltb, le-ltb, le-leb, lt-leb}
+use Rattle.graph_checks.specs.Checks.{refused_by}
+use Rattle.system_builder.specs.Systems.{graph_check}
+use Rattle.system_builder.proofs.SystemLaws.{words_of}
+use Prim.Native.Nat.{ℕ, zero, suc, ◌+◌, ◌-◌, ◌*◌, ◌/◌, ◌%◌, ◌≤◌, ◌<◌}
+use mathlib.Core.Path.{◌≡◌, refl, sym, ap, ◌∙◌}
+use native.Mathlib.Omega.{arith}
+use lib.ListN.{length, get_or, set, length-set}
+use borrow.Author.Rules.{rules}
+use Rattle.system_builder.proofs.inner.checks.graph_check.Goals as goal
+
+pub returns-then-not-system_formed : goal.returns-then-not-system_formed
+unfolding graph_check
+returns-then-not-system_formed c = stopped (refused_by 32) _ (failed c.system_formed.ensures c.if-not-system_formed.true-raw)
+
+pub graph_count-requires : goal.graph_count-requires
+graph_count-requires c = words_of _ true (held c.system_formed.ensures c.if-not-system_formed.false-raw)
+
+pub returns-then-graph_count-ge-GRAPHS : goal.returns-then-graph_count-ge-GRAPHS
+unfolding graph_check
+returns-then-graph_count-ge-GRAPHS c =
+    let n = c.before in
+    let w = c.before.before in
+    passed (refused_by 32) (held w.system_formed.ensures w.if-not-system_formed.false-raw)
+    (stopped (refused_by 28) _ (le-ltb _ _ (rw n.graph_count.ensures at c.if-graph_count-ge-GRAPHS.true)))
+
+pub returns : goal.returns
+unfolding graph_check
+returns c =
+    let n = c.before in
+    let w = c.before.before in
+    passed (refused_by 32) (held w.system_formed.ensures w.if-not-system_formed.false-raw)
+    (passed (refused_by 28) (lt-ltb _ _ (rw n.graph_count.ensures at c.if-graph_count-ge-GRAPHS.false)) refl)

@@ -1,0 +1,16 @@
+use Rattle.graph_tables.proofs.SoundLaws.{sound}
+use Rattle.system_builder.specs.Systems.{started}
+use Rattle.system_builder.proofs.SystemLaws.{part_size}
+use Prim.Native.Nat.{ℕ, zero, suc, ◌+◌, ◌-◌, ◌*◌, ◌/◌, ◌%◌, ◌≤◌, ◌<◌}
+use mathlib.Core.Path.{◌≡◌, refl, sym, ap, ◌∙◌}
+use native.Mathlib.Omega.{arith}
+use lib.ListN.{length, get_or, set, length-set}
+use borrow.Author.Rules.{rules}
+use Rattle.system_builder.proofs.inner.graphs.is_started.Goals as goal
+
+pub process_count-requires : goal.process_count-requires
+process_count-requires c = rw c.graph_at.ensures (part_size _ _ c.requires.0 c.requires.1)
+
+pub returns : goal.returns
+unfolding started
+returns c = rw (c.process_count.ensures, c.graph_at.ensures)

@@ -1,0 +1,35 @@
+use Prim.Native.Nat.{ℕ, ◌-◌, ◌≤◌, ◌<◌}
+use mathlib.Core.Path.{◌≡◌, refl, sym, ap, ◌∙◌}
+use mathlib.Core.Bool.{true}
+use native.Mathlib.Omega.{arith}
+use borrow.Author.Rules.{rules}
+use Rattle.laws.proofs.BelowLaws.{all_none, all_more, all_fails, all_done}
+use Rattle.laws.proofs.Tests.{held, failed}
+use Rattle.laws.specs.Below.{all_below}
+use Rattle.graph_edits.specs.Edits.{chosen}
+use Rattle.system_builder.specs.Messages.{sent_fits}
+use Rattle.system_builder.proofs.inner.messages.all_sent_fit.Goals as goal
+
+pub loop-e-init : goal.loop-e-init
+loop-e-init c = (search rules, all_none _)
+
+pub returns-then-not-is_of_kind : goal.returns-then-not-is_of_kind
+unfolding sent_fits
+returns-then-not-is_of_kind c =
+    let d = c.before in
+    let k = c.before.before in
+    let n = c.before.before.before in
+    let l = c.before.before.before.before.before in
+    sym (all_fails _ _ l.loop-e.e (omega arith) (failed (rw (k.choose.ensures, n.channel_kind-kind.ensures) at d.is_of_kind.ensures) c.if-not-is_of_kind.true-raw))
+
+pub loop-e-preserved : goal.loop-e-preserved
+unfolding sent_fits
+loop-e-preserved c =
+    let d = c.before in
+    let k = c.before.before in
+    let n = c.before.before.before in
+    let l = c.before.before.before.before.before in
+    (omega arith, all_more _ _ l.loop-e.invariant.1 (held (rw (k.choose.ensures, n.channel_kind-kind.ensures) at d.is_of_kind.ensures) c.if-not-is_of_kind.false-raw))
+
+pub returns : goal.returns
+returns c = sym (all_done _ _ c.loop-e.e (omega arith) (omega arith) c.loop-e.invariant.1)

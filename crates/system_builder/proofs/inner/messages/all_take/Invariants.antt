@@ -1,0 +1,16 @@
+use Prim.Native.Nat.{ℕ, ◌-◌, ◌≤◌, ◌<◌}
+use mathlib.Core.Path.{◌≡◌, refl, sym, ap, ◌∙◌}
+use mathlib.Core.Bool.{true}
+use native.Mathlib.Omega.{arith}
+use borrow.Author.Rules.{rules}
+use Rattle.laws.proofs.BelowLaws.{all_none, all_more, all_fails, all_done}
+use Rattle.laws.proofs.Tests.{held, failed}
+use Rattle.laws.specs.Below.{all_below}
+use Rattle.system_builder.specs.Messages.{received_fits}
+use Rattle.system_builder.proofs.inner.messages.all_take.Given as goal
+
+abbrev pub invariant-loop-e : goal.invariant-loop-e
+invariant-loop-e l = (l.e ≤ l.e-end) × (all_below l.e (received_fits l.t l.q l.graph l.vars) ≡ true)
+
+abbrev pub decreases-loop-e : goal.decreases-loop-e
+decreases-loop-e l = l.e-end - l.e

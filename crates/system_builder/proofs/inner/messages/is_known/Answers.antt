@@ -1,0 +1,11 @@
+use Prim.Native.Nat.{ℕ, ◌-◌, ◌≤◌, ◌<◌}
+use mathlib.Core.Path.{◌≡◌, refl, sym, ap, ◌∙◌}
+use mathlib.Core.Bool.{true}
+use native.Mathlib.Omega.{arith}
+use borrow.Author.Rules.{rules}
+use Rattle.graph_checks.specs.Checks.{var_known}
+use Rattle.system_builder.proofs.inner.messages.is_known.Goals as goal
+
+pub returns : goal.returns
+unfolding var_known
+returns c = rw c.variable_count.ensures

@@ -1,0 +1,15 @@
+use Prim.Native.Nat.{ℕ, ◌-◌, ◌≤◌, ◌<◌}
+use mathlib.Core.Path.{◌≡◌, refl, sym, ap, ◌∙◌}
+use mathlib.Core.Bool.{true}
+use native.Mathlib.Omega.{arith}
+use borrow.Author.Rules.{rules}
+use mathlib.Core.List.{List}
+use Rattle.grammar.specs.Typing.{type_of, kinded}
+use Rattle.system_builder.proofs.inner.messages.is_typed.Goals as goal
+
+pub returns : goal.returns
+returns c =
+    let d = c.before in
+    let k = c.before.before in
+    let a = k.args in
+    c.has_kind.ensures ∙ ap kinded (d.type_of.ensures ∙ ap (λ (ks : List ℕ). type_of ks a.items.now) k.kinds_of.ensures)

@@ -1,0 +1,24 @@
+use native.Mathlib.Omega.{arith}
+use Rattle.laws.proofs.BelowLaws.{all_none}
+use Rattle.graph_tables.proofs.FormedLaws.{turn_fails, turn_holds, turns_end}
+use borrow.Author.Rules.{rules}
+use Rattle.system_tables.proofs.formed.all_channels_formed.Goals as goal
+
+pub loop-q-init : goal.loop-q-init
+loop-q-init c =
+    (search rules, all_none _)
+
+pub returns-then-not-channel_formed : goal.returns-then-not-channel_formed
+returns-then-not-channel_formed c =
+    let l = c.before.before.before in
+    turn_fails _ _ l.loop-q.q (omega arith) c.channel_formed.ensures c.if-not-channel_formed.true-raw
+
+pub loop-q-preserved : goal.loop-q-preserved
+loop-q-preserved c =
+    let l = c.before.before.before in
+    turn_holds _ _ l.loop-q.q (omega arith) l.loop-q.invariant.1 c.channel_formed.ensures c.if-not-channel_formed.false-raw
+
+pub returns : goal.returns
+returns c =
+    let l = c.before in
+    turns_end _ _ l.loop-q.q (omega arith) (omega arith) l.loop-q.invariant.1

@@ -1,0 +1,24 @@
+use Rattle.laws.proofs.BelowLaws.{and_yes, and_no}
+use Rattle.laws.proofs.Tests.{held, failed}
+use Rattle.system_tables.specs.Formed.{probe_formed}
+use Rattle.system_tables.proofs.formed.probe_formed.Goals as goal
+
+pub returns-then-not-is_probe : goal.returns-then-not-is_probe
+unfolding probe_formed
+returns-then-not-is_probe c = and_no _ (failed c.is_probe.ensures c.if-not-is_probe.true-raw)
+
+pub returns-then-not-is_send : goal.returns-then-not-is_send
+unfolding probe_formed
+returns-then-not-is_send c =
+    let s = c.before in
+    let k = s.before in
+    and_yes (held k.is_probe.ensures k.if-not-is_probe.false-raw) (and_no _ (failed s.is_send.ensures c.if-not-is_send.true-raw))
+
+pub returns : goal.returns
+unfolding probe_formed
+returns c =
+    let d = c.before in
+    let s = d.before in
+    let k = s.before in
+    and_yes (held k.is_probe.ensures k.if-not-is_probe.false-raw)
+    (and_yes (held s.is_send.ensures d.if-not-is_send.false-raw) (rw c.message_count.ensures))
