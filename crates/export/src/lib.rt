@@ -1,5 +1,5 @@
 // The calls of graphs and systems over numbers and slices alone: what crate `export_c` hands to C.
-#![tactic(auto)]
+#![tactic(auto, unfolding(c_words::specs::Given::answering, laws::specs::Ladder::unless))]
 
 pub mod building;
 pub mod graphs;
