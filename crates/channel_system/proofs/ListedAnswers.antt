@@ -53,6 +53,7 @@ at_in p (x ∷ ps) zero h = Memᴰ.head (sym (ap (possible_in x) h))
 at_in p (x ∷ ps) (suc k) h = Memᴰ.tail (at_in p ps k h)
 
 in_at : (p : Possible) (ps : List Possible) → Memᴰ p ps → (k : ℕ) × (entry_at ps k ≡ told p)
+in_at p [] x' = elim x' [ ]
 in_at p (x ∷ ps) (Memᴰ.head q) = (zero, ap told (sym q))
 in_at p (x ∷ ps) (Memᴰ.tail m) = let r = in_at p ps m in (suc r.0, r.1)
 
