@@ -22,7 +22,6 @@ use Rattle.graph_tables.specs.Words.{action_count, action_kind, effect_count, ef
 use Rattle.graph_tables.specs.Sound.{Sound}
 use Rattle.graph_tables.specs.Messages.{is_send, is_receive}
 use Rattle.graph_tables.specs.declared.answers.Done.{Done}
-use Rattle.graph_tables.specs.declared.answers.Done.TheVariants as Done
 use Rattle.graph_tables.specs.declared.handed.Message.{Message}
 use Rattle.graph_checks.specs.Checks.{refused_by}
 use Rattle.run_steps.specs.Steps.{ready_of, clocks_after, effected_of, post_known}

@@ -26,7 +26,6 @@ use Rattle.channel_system.specs.Steps.{system_fits, run_of}
 use Rattle.channel_system.specs.Listing.{listed_on, possible_on, nosync_on, Possible, listed_below, entry_at, possible_of}
 use Rattle.channel_system.specs.Rows.{OpenOn, SystemRow, OpenIn, possible_for, NotAfter}
 use Rattle.channel_system.specs.declared.answers.Listed.{Listed}
-use Rattle.channel_system.specs.declared.answers.Listed.TheVariants as Listed
 use Rattle.channel_system.proofs.ListedExactly.{graph_lists, system_lists, graph_ascends, system_ascends}
 
 -- ---- an answer that names an entry

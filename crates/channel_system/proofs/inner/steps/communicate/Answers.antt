@@ -1,9 +1,4 @@
-use Prim.Native.Nat.{ℕ, zero, suc, ◌+◌, ◌-◌, ◌*◌, ◌/◌, ◌%◌, ◌≤◌, ◌<◌}
-use mathlib.Core.Path.{◌≡◌, refl, sym, ap, ◌∙◌}
-use native.Mathlib.Omega.{arith}
-use lib.ListN.{length, get_or, set, length-set}
-use borrow.Author.Rules.{rules}
-use Rattle.channel_system.specs.Steps.{channel_answer}
+use mathlib.Core.Path.{refl, sym, ◌∙◌}
 use Rattle.channel_system.proofs.StepLaws.{speaks_channel, received_some}
 use Rattle.channel_system.proofs.inner.steps.communicate.Goals as goal
 

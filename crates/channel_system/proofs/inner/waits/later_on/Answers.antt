@@ -3,7 +3,6 @@ use mathlib.Core.Path.{◌≡◌, ap, ◌∙◌}
 use mathlib.Core.List.{List, ◌++◌}
 use native.Mathlib.Omega.{arith}
 use lib.ListN.{take, drop}
-use borrow.Author.Rules.{rules}
 use Rattle.graph_tables.specs.RunWords.{run_words}
 use Rattle.program_graph.specs.Running.{later}
 use Rattle.program_graph.specs.Inner.{Leaves}
