@@ -1,14 +1,17 @@
 #!/usr/bin/env python3
-"""archive.py REPOSITORY WORK: compiles the port's crates under the exports of exports.rattle, without proof, to WORK/libport.a.
+"""archive.py REPOSITORY WORK: compiles the port's crates under the exports of exports.rattle to WORK/libport.a.
 
-The toolchain compiles only what is proved, but for programs that are tried (`rt try`). So the exports are made a program whose `main`
-reaches each of them and runs none. A stand-in for the compiler behind it keeps the module that it is handed. In that module `main` is
-dropped, each export is given a name that C can call, and the rest is compiled as for a static library."""
+The crates are taken as they were proved last, by `rt ci` or by checks: their built libraries stand in crates/*/out/rlib. The toolchain
+compiles only what is proved, so the exports are made a program whose `main` reaches each of them and runs none, and each export
+requires what is never so: it then counts as proved, and what the driver hands it is the driver's affair. A stand-in for the compiler behind the
+program keeps the module that it is handed. In that module `main` is dropped, each export is given a name that C can call, and the rest
+is compiled as for a static library."""
 
 import os
 import re
 import subprocess
 import sys
+import tempfile
 from pathlib import Path
 
 CRATE = "bench"
@@ -33,6 +36,21 @@ case " $* " in *" -O3 "*)
 esac
 exec "{clang}" "$@"
 """
+
+# The head of the program, and the clause of its exports.
+HEAD = """// The exports of the bench.
+#![tactic(auto)]
+
+ghost use Rattle.std.specs.Prelude.{◌<◌};
+
+"""
+NEVER = r"\1\n    requires { 1 < 0 }\n{"
+
+# What the toolchain hands its compiler for a static library.
+OPTIONS = (
+    "-march=x86-64 -mllvm -no-trap-after-noreturn -ffunction-sections -fdata-sections -mllvm -trap-unreachable -mllvm -no-x86-call-frame-opt "
+    "-mllvm -disable-machine-licm -mllvm -disable-postra-machine-licm -mllvm -sink-common-insts=false -fPIC -O3"
+).split()
 
 
 def functions(text):
@@ -75,9 +93,9 @@ fn main() {{
 
 
 def crates_of(repository):
-    """The crates of the library, those before the ones on text and the programs."""
-    listed = [line.split(":")[0] for line in (repository / "crates.txt").read_text().splitlines() if ":" in line and line[0] != "#"]
-    return listed[: listed.index("text")]
+    """The crates of the library: those that `export` stands on."""
+    listed = dict(line.split(":") for line in (repository / "crates.txt").read_text().splitlines() if ":" in line and line[0] != "#")
+    return listed["export"].split()
 
 
 def run(command, **words):
@@ -90,32 +108,37 @@ def run(command, **words):
 def main():
     here = Path(__file__).resolve().parent
     repository, work = Path(sys.argv[1]), Path(sys.argv[2])
-    kit = Path(run(["rt", "doc"]).strip()).resolve().parents[1]
-    own = kit / "on" / os.uname().machine
-    clang = own / "toolchain/bin/clang"
-
-    tools = work / "tools"
-    (tools / "bin").mkdir(parents=True, exist_ok=True)
-    for name in os.listdir(own / "toolchain/bin"):
-        link = tools / "bin" / name
-        link.unlink(missing_ok=True)
-        if name != "clang":
-            link.symlink_to(own / "toolchain/bin" / name)
-    library = tools / "lib"
-    library.unlink(missing_ok=True)
-    library.symlink_to(own / "toolchain/lib")
+    kit = Path(run(["rt", "doc"]).strip()).resolve().parent
+    toolchain = kit / "toolchain"
+    clang = toolchain / "bin/clang"
     kept = work / "module.bc"
     kept.unlink(missing_ok=True)
-    (tools / "bin/clang").write_text(STAND_IN.format(kept=kept, clang=clang))
-    (tools / "bin/clang").chmod(0o755)
+    libraries = {name: f"{repository}/crates/{name}/out/rlib/{name}.rlib" for name in crates_of(repository)}
+    lacking = [name for name, library in libraries.items() if not os.path.isdir(library)]
+    if lacking:
+        sys.exit(f"bench: {lacking[0]} is not built: run `rt ci` or tools/dist first")
 
-    exports = (here / "exports.rattle").read_text()
-    source = work / "main.rt"
-    source.write_text(exports + reaching(exports))
-    words = [own / "bin/rattle-cases", "--toolchain", tools, source, "--crate-name", CRATE, "--lib", f"std={kit}/libs/std/src/lib.rt"]
-    for crate in crates_of(repository):
-        words += ["--lib", f"{crate}={repository}/crates/{crate}/src/lib.rt"]
-    run(words)
+    # Outside the repository: `rt ci` takes no link in it, and no file of Rattle's beside the crates.
+    with tempfile.TemporaryDirectory() as folder:
+        tools, crate = Path(folder) / "tools", Path(folder) / "crate"
+        (tools / "bin").mkdir(parents=True)
+        for name in os.listdir(toolchain / "bin"):
+            if name != "clang":
+                (tools / "bin" / name).symlink_to(toolchain / "bin" / name)
+        (tools / "lib").symlink_to(toolchain / "lib")
+        (tools / "bin/clang").write_text(STAND_IN.format(kept=kept, clang=clang))
+        (tools / "bin/clang").chmod(0o755)
+
+        exports = (here / "exports.rattle").read_text()
+        (crate / "src").mkdir(parents=True)
+        whole = re.sub(r"^(fn \w+(?:<'a>)?\([^)]*\)(?: -> [\w:]+)?) \{", NEVER, exports, flags=re.M)
+        (crate / "src/main.rt").write_text(HEAD + whole + reaching(exports))
+        words = [kit / "bin/rattle", "build", "--crate-name", CRATE, "src/main.rt", "-L", f"dependency={kit}/rlibs"]
+        libraries |= {name: f"{kit}/rlibs/{name}.rlib" for name in ("core", "std")}
+        for name, library in libraries.items():
+            words += ["--extern", f"{name}={library}"]
+        words += ["--antt-project", kit / "rattle/logic/antt-project.json", "--logic-built", kit / "logic_built"]
+        run([*words, "--toolchain", tools, "-o", "bench.o"], cwd=crate)
 
     target = [clang, "--target=x86_64-unknown-linux-gnu"]
     plain = work / "module.ll"
@@ -125,11 +148,10 @@ def main():
     text = re.sub(r'^define internal ([^\n]*)@"bench::(\w+)"', r'define \1@"bench::\2"', text, flags=re.M)
     text = re.sub(r'@"bench::(\w+)"', r"@bench_\1", text)
     plain.write_text(text)
-    options = ["-march=x86-64", "-ffunction-sections", "-fdata-sections", "-mllvm", "-trap-unreachable", "-mllvm", "-no-trap-after-noreturn"]
-    run(target + options + ["-c", "-x", "ir", plain, "-o", work / "port.o", "-fPIC", "-O3"])
+    run(target + OPTIONS + ["-c", "-x", "ir", plain, "-o", work / "port.o"])
     archive = work / "libport.a"
     archive.unlink(missing_ok=True)
-    run([own / "toolchain/bin/llvm-ar", "rcs", archive, work / "port.o"])
+    run([toolchain / "bin/llvm-ar", "rcs", archive, work / "port.o"])
 
 
 main()

@@ -19,7 +19,7 @@ ROWS = [
     ("a system: words", "channels, queues, states", ["queues", "system_tables", "system_state"]),
     ("a system: calls", "build it, run it", ["system_builder", "channel_system"]),
     ("above a system", "recordings, causes", ["recordings", "replays", "explainer"]),
-    ("in users' hands", "for C and Rust", ["c_words", "export"]),
+    ("in users' hands", "for C and Rust", ["c_words", "export", "export_c"]),
     ("lines", "text in, answers out", ["text", "graph_text", "building_lines", "running_lines", "system_lines", "why_lines"]),
     ("programs", "run and compared", ["runner", "calls"]),
 ]

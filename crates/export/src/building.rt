@@ -17,14 +17,7 @@ use graph_tables::ids::{Action, Clock, Location, Var};
 use system_builder::{messages, on_graph};
 use system_tables::ids::{Channel, PgId};
 
-#[unsafe(no_mangle)]
-pub extern "C" fn njn_system_new_var(
-    t: &mut [u64],
-    pg: u32,
-    kind: u64,
-    payload: u64,
-    out: &mut [u64],
-) -> u32
+pub fn njn_system_new_var(t: &mut [u64], pg: u32, kind: u64, payload: u64, out: &mut [u64]) -> u32
     ensures { Gives result t.new out.new (placing (is_value kind payload) t.old out.old (new_var_on t.old pg (val_of kind payload))) }
 {
     if out.len() < given::NUMBER {
@@ -37,8 +30,7 @@ pub extern "C" fn njn_system_new_var(
     given::placed(on_graph::new_var(t, PgId(pg), value), out)
 }
 
-#[unsafe(no_mangle)]
-pub extern "C" fn njn_system_var_type(t: &[u64], pg: u32, var: u32, out: &mut [u64]) -> u32
+pub fn njn_system_var_type(t: &[u64], pg: u32, var: u32, out: &mut [u64]) -> u32
     ensures { Tells result out.new (reading number_words out.old (var_type_told (var_type_in t.now pg var))) }
 {
     if out.len() < given::NUMBER {
@@ -47,8 +39,7 @@ pub extern "C" fn njn_system_var_type(t: &[u64], pg: u32, var: u32, out: &mut [u
     given::var_type(on_graph::var_type(t, PgId(pg), Var(var)), out)
 }
 
-#[unsafe(no_mangle)]
-pub extern "C" fn njn_system_new_clock(t: &mut [u64], pg: u32, out: &mut [u64]) -> u32
+pub fn njn_system_new_clock(t: &mut [u64], pg: u32, out: &mut [u64]) -> u32
     ensures { Gives result t.new out.new (placing true t.old out.old (new_clock_on t.old pg)) }
 {
     if out.len() < given::NUMBER {
@@ -57,8 +48,7 @@ pub extern "C" fn njn_system_new_clock(t: &mut [u64], pg: u32, out: &mut [u64]) 
     given::placed(on_graph::new_clock(t, PgId(pg)), out)
 }
 
-#[unsafe(no_mangle)]
-pub extern "C" fn njn_system_new_action(t: &mut [u64], pg: u32, out: &mut [u64]) -> u32
+pub fn njn_system_new_action(t: &mut [u64], pg: u32, out: &mut [u64]) -> u32
     ensures { Gives result t.new out.new (placing true t.old out.old (new_action_on t.old pg)) }
 {
     if out.len() < given::NUMBER {
@@ -67,28 +57,19 @@ pub extern "C" fn njn_system_new_action(t: &mut [u64], pg: u32, out: &mut [u64])
     given::placed(on_graph::new_action(t, PgId(pg)), out)
 }
 
-#[unsafe(no_mangle)]
-pub extern "C" fn njn_system_add_reset(t: &mut [u64], pg: u32, action: u32, clock: u32) -> u32
+pub fn njn_system_add_reset(t: &mut [u64], pg: u32, action: u32, clock: u32) -> u32
     ensures { Does result t.new (doing true t.old (add_reset_on t.old pg action clock)) }
 {
     given::done(on_graph::add_reset(t, PgId(pg), Action(action), Clock(clock)))
 }
 
-#[unsafe(no_mangle)]
-pub extern "C" fn njn_system_add_effect(
-    t: &mut [u64],
-    pg: u32,
-    action: u32,
-    var: u32,
-    effect: &[u64],
-) -> u32
+pub fn njn_system_add_effect(t: &mut [u64], pg: u32, action: u32, var: u32, effect: &[u64]) -> u32
     ensures { Does result t.new (doing true t.old (add_effect_on t.old pg action var effect.now)) }
 {
     given::done(on_graph::add_effect(t, PgId(pg), Action(action), Var(var), effect))
 }
 
-#[unsafe(no_mangle)]
-pub extern "C" fn njn_system_new_timed_location(
+pub fn njn_system_new_timed_location(
     t: &mut [u64],
     pg: u32,
     invariants: &[u64],
@@ -106,15 +87,13 @@ pub extern "C" fn njn_system_new_timed_location(
     given::placed(on_graph::new_timed_location(t, PgId(pg), limits), out)
 }
 
-#[unsafe(no_mangle)]
-pub extern "C" fn njn_system_new_process(t: &mut [u64], pg: u32, location: u32) -> u32
+pub fn njn_system_new_process(t: &mut [u64], pg: u32, location: u32) -> u32
     ensures { Does result t.new (doing true t.old (new_process_on t.old pg location)) }
 {
     given::done(on_graph::new_process(t, PgId(pg), Location(location)))
 }
 
-#[unsafe(no_mangle)]
-pub extern "C" fn njn_system_new_initial_timed_location(
+pub fn njn_system_new_initial_timed_location(
     t: &mut [u64],
     pg: u32,
     invariants: &[u64],
@@ -135,8 +114,7 @@ pub extern "C" fn njn_system_new_initial_timed_location(
     )
 }
 
-#[unsafe(no_mangle)]
-pub extern "C" fn njn_system_add_timed_transition(
+pub fn njn_system_add_timed_transition(
     t: &mut [u64],
     pg: u32,
     pre: u32,
@@ -164,8 +142,7 @@ pub extern "C" fn njn_system_add_timed_transition(
     ))
 }
 
-#[unsafe(no_mangle)]
-pub extern "C" fn njn_system_new_send<'a>(
+pub fn njn_system_new_send<'a>(
     t: &mut [u64],
     pg: u32,
     channel: u32,
@@ -187,8 +164,7 @@ pub extern "C" fn njn_system_new_send<'a>(
     )
 }
 
-#[unsafe(no_mangle)]
-pub extern "C" fn njn_system_new_receive(
+pub fn njn_system_new_receive(
     t: &mut [u64],
     pg: u32,
     channel: u32,
@@ -206,8 +182,7 @@ pub extern "C" fn njn_system_new_receive(
     )
 }
 
-#[unsafe(no_mangle)]
-pub extern "C" fn njn_system_new_probe_empty_queue(
+pub fn njn_system_new_probe_empty_queue(
     t: &mut [u64],
     pg: u32,
     channel: u32,
@@ -224,13 +199,7 @@ pub extern "C" fn njn_system_new_probe_empty_queue(
     )
 }
 
-#[unsafe(no_mangle)]
-pub extern "C" fn njn_system_new_probe_full_queue(
-    t: &mut [u64],
-    pg: u32,
-    channel: u32,
-    out: &mut [u64],
-) -> u32
+pub fn njn_system_new_probe_full_queue(t: &mut [u64], pg: u32, channel: u32, out: &mut [u64]) -> u32
     ensures { Gives result t.new out.new (placing true t.old out.old (new_probe_on t.old pg ProbeFullQueue (record { 0 = channel }))) }
 {
     if out.len() < given::NUMBER {

@@ -12,15 +12,13 @@ use c_words::inner::{given, handed};
 use grammar::inner::slots;
 use graph_tables::ids::{Action, Clock, Location, Var};
 
-#[unsafe(no_mangle)]
-pub extern "C" fn njn_graph_new(t: &mut [u64]) -> u32
+pub fn njn_graph_new(t: &mut [u64]) -> u32
     ensures { Does result t.new (doing true t.old (empty_of t.old)) }
 {
     given::done(graph_builder::new(t))
 }
 
-#[unsafe(no_mangle)]
-pub extern "C" fn njn_graph_new_var(t: &mut [u64], kind: u64, payload: u64, out: &mut [u64]) -> u32
+pub fn njn_graph_new_var(t: &mut [u64], kind: u64, payload: u64, out: &mut [u64]) -> u32
     ensures { Gives result t.new out.new (placing (is_value kind payload) t.old out.old (new_var_of t.old (val_of kind payload))) }
 {
     if out.len() < given::NUMBER {
@@ -33,8 +31,7 @@ pub extern "C" fn njn_graph_new_var(t: &mut [u64], kind: u64, payload: u64, out:
     given::placed(graph_builder::new_var(t, value), out)
 }
 
-#[unsafe(no_mangle)]
-pub extern "C" fn njn_graph_var_type(t: &[u64], var: u32, out: &mut [u64]) -> u32
+pub fn njn_graph_var_type(t: &[u64], var: u32, out: &mut [u64]) -> u32
     ensures { Tells result out.new (reading number_words out.old (var_type_told (var_type_of t.now var))) }
 {
     if out.len() < given::NUMBER {
@@ -43,8 +40,7 @@ pub extern "C" fn njn_graph_var_type(t: &[u64], var: u32, out: &mut [u64]) -> u3
     given::var_type(graph_builder::var_type(t, Var(var)), out)
 }
 
-#[unsafe(no_mangle)]
-pub extern "C" fn njn_graph_new_clock(t: &mut [u64], out: &mut [u64]) -> u32
+pub fn njn_graph_new_clock(t: &mut [u64], out: &mut [u64]) -> u32
     ensures { Gives result t.new out.new (placing true t.old out.old (new_clock_of t.old)) }
 {
     if out.len() < given::NUMBER {
@@ -53,8 +49,7 @@ pub extern "C" fn njn_graph_new_clock(t: &mut [u64], out: &mut [u64]) -> u32
     given::placed(graph_builder::new_clock(t), out)
 }
 
-#[unsafe(no_mangle)]
-pub extern "C" fn njn_graph_new_action(t: &mut [u64], out: &mut [u64]) -> u32
+pub fn njn_graph_new_action(t: &mut [u64], out: &mut [u64]) -> u32
     ensures { Gives result t.new out.new (placing true t.old out.old (new_action_of t.old)) }
 {
     if out.len() < given::NUMBER {
@@ -63,22 +58,19 @@ pub extern "C" fn njn_graph_new_action(t: &mut [u64], out: &mut [u64]) -> u32
     given::placed(graph_builder::new_action(t), out)
 }
 
-#[unsafe(no_mangle)]
-pub extern "C" fn njn_graph_add_reset(t: &mut [u64], action: u32, clock: u32) -> u32
+pub fn njn_graph_add_reset(t: &mut [u64], action: u32, clock: u32) -> u32
     ensures { Does result t.new (doing true t.old (add_reset_of t.old action clock)) }
 {
     given::done(graph_builder::add_reset(t, Action(action), Clock(clock)))
 }
 
-#[unsafe(no_mangle)]
-pub extern "C" fn njn_graph_add_effect(t: &mut [u64], action: u32, var: u32, effect: &[u64]) -> u32
+pub fn njn_graph_add_effect(t: &mut [u64], action: u32, var: u32, effect: &[u64]) -> u32
     ensures { Does result t.new (doing true t.old (add_effect_of t.old action var effect.now)) }
 {
     given::done(graph_builder::add_effect(t, Action(action), Var(var), effect))
 }
 
-#[unsafe(no_mangle)]
-pub extern "C" fn njn_graph_new_send<'a>(
+pub fn njn_graph_new_send<'a>(
     t: &mut [u64],
     count: usize,
     w: &'a [u64],
@@ -95,8 +87,7 @@ pub extern "C" fn njn_graph_new_send<'a>(
     given::placed(graph_builder::new_send(t, count, w, x, y, z), out)
 }
 
-#[unsafe(no_mangle)]
-pub extern "C" fn njn_graph_new_receive(t: &mut [u64], vars: &[u32], out: &mut [u64]) -> u32
+pub fn njn_graph_new_receive(t: &mut [u64], vars: &[u32], out: &mut [u64]) -> u32
     ensures { Gives result t.new out.new (placing true t.old out.old (new_receive_of t.old (vars_from vars.now))) }
 {
     if out.len() < given::NUMBER {
@@ -105,12 +96,7 @@ pub extern "C" fn njn_graph_new_receive(t: &mut [u64], vars: &[u32], out: &mut [
     given::placed(graph_builder::new_receive(t, handed::vars_of(vars)), out)
 }
 
-#[unsafe(no_mangle)]
-pub extern "C" fn njn_graph_new_timed_location(
-    t: &mut [u64],
-    invariants: &[u64],
-    out: &mut [u64],
-) -> u32
+pub fn njn_graph_new_timed_location(t: &mut [u64], invariants: &[u64], out: &mut [u64]) -> u32
     ensures { Gives result t.new out.new (placing (limits_known invariants.now) t.old out.old (new_timed_location_of t.old (limits_from invariants.now))) }
 {
     if out.len() < given::NUMBER {
@@ -123,15 +109,13 @@ pub extern "C" fn njn_graph_new_timed_location(
     given::placed(graph_builder::new_timed_location(t, limits), out)
 }
 
-#[unsafe(no_mangle)]
-pub extern "C" fn njn_graph_new_process(t: &mut [u64], location: u32) -> u32
+pub fn njn_graph_new_process(t: &mut [u64], location: u32) -> u32
     ensures { Does result t.new (doing true t.old (new_process_of t.old location)) }
 {
     given::done(graph_builder::new_process(t, Location(location)))
 }
 
-#[unsafe(no_mangle)]
-pub extern "C" fn njn_graph_new_initial_timed_location(
+pub fn njn_graph_new_initial_timed_location(
     t: &mut [u64],
     invariants: &[u64],
     out: &mut [u64],
@@ -148,8 +132,7 @@ pub extern "C" fn njn_graph_new_initial_timed_location(
     given::placed(graph_builder::new_initial_timed_location(t, limits), out)
 }
 
-#[unsafe(no_mangle)]
-pub extern "C" fn njn_graph_add_timed_transition(
+pub fn njn_graph_add_timed_transition(
     t: &mut [u64],
     pre: u32,
     action: u32,
@@ -175,8 +158,7 @@ pub extern "C" fn njn_graph_add_timed_transition(
     ))
 }
 
-#[unsafe(no_mangle)]
-pub extern "C" fn njn_graph_build(t: &[u64]) -> u32
+pub fn njn_graph_build(t: &[u64]) -> u32
     ensures { result ≡ (done_told (build_of t.now)).number }
 {
     given::done(graph_builder::build(t))

@@ -1,5 +1,5 @@
-// The calls of graphs and systems for C: numbers and slices alone. include/njunnemar.h declares each, and says what it answers.
-#![tactic(auto)]
+// The calls of graphs and systems over numbers and slices alone: what crate `export_c` hands to C.
+#![tactic(auto, unfolding(c_words::specs::Given::answering, laws::specs::Ladder::unless))]
 
 pub mod building;
 pub mod graphs;

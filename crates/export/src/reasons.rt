@@ -15,23 +15,20 @@ use system_tables::ids::{Action, PgId};
 // How many words a cause has.
 const WORDS: usize = 6;
 
-#[unsafe(no_mangle)]
-pub extern "C" fn njn_cause_words() -> usize
+pub fn njn_cause_words() -> usize
     ensures { result ≡ cause_words }
 {
     WORDS
 }
 
 // The two tables that are lent.
-#[unsafe(no_mangle)]
-pub extern "C" fn njn_guards_words() -> usize
+pub fn njn_guards_words() -> usize
     ensures { result ≡ all_guards }
 {
     layout::ALL_GUARDS
 }
 
-#[unsafe(no_mangle)]
-pub extern "C" fn njn_limits_words() -> usize
+pub fn njn_limits_words() -> usize
     ensures { result ≡ all_limits }
 {
     layout::ALL_LIMITS
@@ -57,8 +54,7 @@ fn found(found: Found, out: &mut [u64]) -> u32
 }
 
 // The part that fails is told by its place: a caller has the table that it lent.
-#[unsafe(no_mangle)]
-pub extern "C" fn njn_state_why(
+pub fn njn_state_why(
     t: &[u64],
     s: &[u64],
     guards: &[u64],

@@ -17,8 +17,7 @@ const DIFFERS: u32 = 38;
 // How many words a replay tells.
 const WORDS: usize = 4;
 
-#[unsafe(no_mangle)]
-pub extern "C" fn njn_replay_words() -> usize
+pub fn njn_replay_words() -> usize
     ensures { result ≡ replay_words }
 {
     WORDS
@@ -54,8 +53,7 @@ fn replayed(answer: Replayed, out: &mut [u64]) -> u32
     }
 }
 
-#[unsafe(no_mangle)]
-pub extern "C" fn njn_state_replay(t: &[u64], s: &mut [u64], bytes: &[u8], out: &mut [u64]) -> u32
+pub fn njn_state_replay(t: &[u64], s: &mut [u64], bytes: &[u8], out: &mut [u64]) -> u32
     ensures { Gives result s.new out.new (answering replay_words true s.old out.old
         (replay_told (replay_of t.now s.old bytes.now).answer)
         (replay_of t.now s.old bytes.now).state) }

@@ -13,15 +13,13 @@ use c_words::inner::given;
 use channel_system::{readers, run, transitions};
 use system_tables::ids::{Action, Channel, PgId};
 
-#[unsafe(no_mangle)]
-pub extern "C" fn njn_state_new(t: &[u64], s: &mut [u64]) -> u32
+pub fn njn_state_new(t: &[u64], s: &mut [u64]) -> u32
     ensures { Does result s.new (answering 0 true s.old [] (done_told (new_instance_of t.now s.old).answer) (new_instance_of t.now s.old).state) }
 {
     given::done(run::new_instance(t, s))
 }
 
-#[unsafe(no_mangle)]
-pub extern "C" fn njn_state_transition(
+pub fn njn_state_transition(
     t: &[u64],
     s: &mut [u64],
     pg: u32,
@@ -40,8 +38,7 @@ pub extern "C" fn njn_state_transition(
     given::event(run::transition(t, s, PgId(pg), by, posts, word), out)
 }
 
-#[unsafe(no_mangle)]
-pub extern "C" fn njn_state_wait(t: &[u64], s: &mut [u64], delta: u32, out: &mut [u64]) -> u32
+pub fn njn_state_wait(t: &[u64], s: &mut [u64], delta: u32, out: &mut [u64]) -> u32
     ensures { Gives result s.new out.new (answering number_words true s.old out.old (waited_told (wait_of t.now s.old delta).answer) (wait_of t.now s.old delta).state) }
 {
     if out.len() < given::NUMBER {
@@ -50,8 +47,7 @@ pub extern "C" fn njn_state_wait(t: &[u64], s: &mut [u64], delta: u32, out: &mut
     given::waited(run::wait(t, s, delta), out)
 }
 
-#[unsafe(no_mangle)]
-pub extern "C" fn njn_state_can_wait(t: &[u64], s: &[u64], delta: u32, out: &mut [u64]) -> u32
+pub fn njn_state_can_wait(t: &[u64], s: &[u64], delta: u32, out: &mut [u64]) -> u32
     ensures { Tells result out.new (reading number_words out.old (held_told (can_wait_of t.now s.now delta))) }
 {
     if out.len() < given::NUMBER {
@@ -60,8 +56,7 @@ pub extern "C" fn njn_state_can_wait(t: &[u64], s: &[u64], delta: u32, out: &mut
     given::held(run::can_wait(t, s, delta), out)
 }
 
-#[unsafe(no_mangle)]
-pub extern "C" fn njn_state_is_waiting(t: &[u64], s: &[u64], out: &mut [u64]) -> u32
+pub fn njn_state_is_waiting(t: &[u64], s: &[u64], out: &mut [u64]) -> u32
     ensures { Tells result out.new (reading number_words out.old (held_told (is_waiting_of t.now s.now))) }
 {
     if out.len() < given::NUMBER {
@@ -70,13 +65,7 @@ pub extern "C" fn njn_state_is_waiting(t: &[u64], s: &[u64], out: &mut [u64]) ->
     given::held(run::is_waiting(t, s), out)
 }
 
-#[unsafe(no_mangle)]
-pub extern "C" fn njn_state_possible_transitions(
-    t: &[u64],
-    s: &[u64],
-    k: usize,
-    out: &mut [u64],
-) -> u32
+pub fn njn_state_possible_transitions(t: &[u64], s: &[u64], k: usize, out: &mut [u64]) -> u32
     ensures { Tells result out.new (reading graph_entry_words out.old (graph_entry_told (possible_of t.now s.now k))) }
 {
     if out.len() < given::GRAPH_ENTRY {
@@ -85,8 +74,7 @@ pub extern "C" fn njn_state_possible_transitions(
     given::graph_entry(transitions::possible_transitions(t, s, k), out)
 }
 
-#[unsafe(no_mangle)]
-pub extern "C" fn njn_state_possible_transitions_pg(
+pub fn njn_state_possible_transitions_pg(
     t: &[u64],
     s: &[u64],
     pg: u32,
@@ -101,8 +89,7 @@ pub extern "C" fn njn_state_possible_transitions_pg(
     given::entry(transitions::possible_transitions_pg(t, s, PgId(pg), k), out)
 }
 
-#[unsafe(no_mangle)]
-pub extern "C" fn njn_state_nosync_possible_transitions_pg(
+pub fn njn_state_nosync_possible_transitions_pg(
     t: &[u64],
     s: &[u64],
     pg: u32,
@@ -120,8 +107,7 @@ pub extern "C" fn njn_state_nosync_possible_transitions_pg(
     )
 }
 
-#[unsafe(no_mangle)]
-pub extern "C" fn njn_state_time(t: &[u64], s: &[u64], out: &mut [u64]) -> u32
+pub fn njn_state_time(t: &[u64], s: &[u64], out: &mut [u64]) -> u32
     ensures { Tells result out.new (reading number_words out.old (now_told (now_of t.now s.now))) }
 {
     if out.len() < given::NUMBER {
@@ -130,8 +116,7 @@ pub extern "C" fn njn_state_time(t: &[u64], s: &[u64], out: &mut [u64]) -> u32
     given::time(readers::time(t, s), out)
 }
 
-#[unsafe(no_mangle)]
-pub extern "C" fn njn_state_queue_length(t: &[u64], s: &[u64], channel: u32, out: &mut [u64]) -> u32
+pub fn njn_state_queue_length(t: &[u64], s: &[u64], channel: u32, out: &mut [u64]) -> u32
     ensures { Tells result out.new (reading number_words out.old (length_told (length_of t.now s.now channel))) }
 {
     if out.len() < given::NUMBER {
@@ -140,14 +125,7 @@ pub extern "C" fn njn_state_queue_length(t: &[u64], s: &[u64], channel: u32, out
     given::length(readers::queue_length(t, s, Channel(channel)), out)
 }
 
-#[unsafe(no_mangle)]
-pub extern "C" fn njn_state_queue_value(
-    t: &[u64],
-    s: &[u64],
-    channel: u32,
-    k: usize,
-    out: &mut [u64],
-) -> u32
+pub fn njn_state_queue_value(t: &[u64], s: &[u64], channel: u32, k: usize, out: &mut [u64]) -> u32
     ensures { Tells result out.new (reading queued_words out.old (queued_told (queued_of t.now s.now channel k))) }
 {
     if out.len() < given::QUEUED {

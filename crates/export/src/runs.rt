@@ -8,22 +8,14 @@ ghost use Rattle.c_words.specs.Lent.{possible_at, nosync_at, value_at, time_at, 
 
 use c_words::inner::{given, handed, lent};
 
-#[unsafe(no_mangle)]
-pub extern "C" fn njn_run_new(t: &[u64], r: &mut [u64]) -> u32
+pub fn njn_run_new(t: &[u64], r: &mut [u64]) -> u32
     ensures { Does result r.new (answering 0 true r.old [] (done_told (new_run_at t.now r.old).answer)
         (new_run_at t.now r.old).words) }
 {
     given::done(lent::new(t, r))
 }
 
-#[unsafe(no_mangle)]
-pub extern "C" fn njn_run_transition(
-    t: &[u64],
-    r: &mut [u64],
-    action: u32,
-    posts: &[u32],
-    word: u64,
-) -> u32
+pub fn njn_run_transition(t: &[u64], r: &mut [u64], action: u32, posts: &[u32], word: u64) -> u32
     ensures { Does result r.new (answering 0 true r.old []
         (done_told (transition_at t.now r.old action posts.now word).answer)
         (transition_at t.now r.old action posts.now word).words) }
@@ -31,14 +23,7 @@ pub extern "C" fn njn_run_transition(
     given::done(lent::transition(t, r, action, posts, word))
 }
 
-#[unsafe(no_mangle)]
-pub extern "C" fn njn_run_receive(
-    t: &[u64],
-    r: &mut [u64],
-    action: u32,
-    posts: &[u32],
-    values: &[u64],
-) -> u32
+pub fn njn_run_receive(t: &[u64], r: &mut [u64], action: u32, posts: &[u32], values: &[u64]) -> u32
     ensures { Does result r.new (answering 0 (values_known values.now) r.old []
         (done_told (receive_at t.now r.old action posts.now (message_from values.now)).answer)
         (receive_at t.now r.old action posts.now (message_from values.now)).words) }
@@ -50,16 +35,14 @@ pub extern "C" fn njn_run_receive(
     given::done(lent::receive(t, r, action, posts, message))
 }
 
-#[unsafe(no_mangle)]
-pub extern "C" fn njn_run_wait(t: &[u64], r: &mut [u64], delta: u32) -> u32
+pub fn njn_run_wait(t: &[u64], r: &mut [u64], delta: u32) -> u32
     ensures { Does result r.new (answering 0 true r.old [] (done_told (wait_at t.now r.old delta).answer)
         (wait_at t.now r.old delta).words) }
 {
     given::done(lent::wait(t, r, delta))
 }
 
-#[unsafe(no_mangle)]
-pub extern "C" fn njn_run_can_wait(t: &[u64], r: &[u64], delta: u32, out: &mut [u64]) -> u32
+pub fn njn_run_can_wait(t: &[u64], r: &[u64], delta: u32, out: &mut [u64]) -> u32
     ensures { Tells result out.new (reading number_words out.old (held_told (can_wait_at t.now r.now delta))) }
 {
     if out.len() < given::NUMBER {
@@ -68,8 +51,7 @@ pub extern "C" fn njn_run_can_wait(t: &[u64], r: &[u64], delta: u32, out: &mut [
     given::held(lent::can_wait(t, r, delta), out)
 }
 
-#[unsafe(no_mangle)]
-pub extern "C" fn njn_run_is_waiting(t: &[u64], r: &[u64], out: &mut [u64]) -> u32
+pub fn njn_run_is_waiting(t: &[u64], r: &[u64], out: &mut [u64]) -> u32
     ensures { Tells result out.new (reading number_words out.old (held_told (is_waiting_at t.now r.now))) }
 {
     if out.len() < given::NUMBER {
@@ -78,13 +60,7 @@ pub extern "C" fn njn_run_is_waiting(t: &[u64], r: &[u64], out: &mut [u64]) -> u
     given::held(lent::is_waiting(t, r), out)
 }
 
-#[unsafe(no_mangle)]
-pub extern "C" fn njn_run_possible_transitions(
-    t: &[u64],
-    r: &[u64],
-    k: usize,
-    out: &mut [u64],
-) -> u32
+pub fn njn_run_possible_transitions(t: &[u64], r: &[u64], k: usize, out: &mut [u64]) -> u32
     ensures { Tells result out.new (reading entry_words out.old (entry_told (possible_at t.now r.now k))) }
 {
     if out.len() < given::ENTRY {
@@ -93,13 +69,7 @@ pub extern "C" fn njn_run_possible_transitions(
     given::entry(lent::possible_transitions(t, r, k), out)
 }
 
-#[unsafe(no_mangle)]
-pub extern "C" fn njn_run_nosync_possible_transitions(
-    t: &[u64],
-    r: &[u64],
-    k: usize,
-    out: &mut [u64],
-) -> u32
+pub fn njn_run_nosync_possible_transitions(t: &[u64], r: &[u64], k: usize, out: &mut [u64]) -> u32
     ensures { Tells result out.new (reading entry_words out.old (entry_told (nosync_at t.now r.now k))) }
 {
     if out.len() < given::ENTRY {
@@ -108,8 +78,7 @@ pub extern "C" fn njn_run_nosync_possible_transitions(
     given::entry(lent::nosync_possible_transitions(t, r, k), out)
 }
 
-#[unsafe(no_mangle)]
-pub extern "C" fn njn_run_send(
+pub fn njn_run_send(
     t: &[u64],
     r: &mut [u64],
     action: u32,
@@ -131,8 +100,7 @@ pub extern "C" fn njn_run_send(
     given::message(answer, message, out)
 }
 
-#[unsafe(no_mangle)]
-pub extern "C" fn njn_run_value(t: &[u64], r: &[u64], var: u32, out: &mut [u64]) -> u32
+pub fn njn_run_value(t: &[u64], r: &[u64], var: u32, out: &mut [u64]) -> u32
     ensures { Tells result out.new (reading value_words out.old (value_told (value_at t.now r.now var))) }
 {
     if out.len() < given::VALUE {
@@ -141,8 +109,7 @@ pub extern "C" fn njn_run_value(t: &[u64], r: &[u64], var: u32, out: &mut [u64])
     given::value(lent::value(t, r, var), out)
 }
 
-#[unsafe(no_mangle)]
-pub extern "C" fn njn_run_time(t: &[u64], r: &[u64], clock: u32, out: &mut [u64]) -> u32
+pub fn njn_run_time(t: &[u64], r: &[u64], clock: u32, out: &mut [u64]) -> u32
     ensures { Tells result out.new (reading number_words out.old (time_told (time_at t.now r.now clock))) }
 {
     if out.len() < given::NUMBER {
@@ -151,8 +118,7 @@ pub extern "C" fn njn_run_time(t: &[u64], r: &[u64], clock: u32, out: &mut [u64]
     lent::time(t, r, clock, out)
 }
 
-#[unsafe(no_mangle)]
-pub extern "C" fn njn_run_current_states(t: &[u64], r: &[u64], out: &mut [u64]) -> u32
+pub fn njn_run_current_states(t: &[u64], r: &[u64], out: &mut [u64]) -> u32
     ensures { Tells result out.new (reading places_words out.old (states_at t.now r.now)) }
 {
     if out.len() < given::PLACES {

@@ -9,85 +9,73 @@ ghost use Rattle.c_words.specs.Told.{value_words, queued_words, entry_words, gra
 use c_words::inner::given;
 use graph_tables::runs;
 
-#[unsafe(no_mangle)]
-pub extern "C" fn njn_graph_words() -> usize
+pub fn njn_graph_words() -> usize
     ensures { result ≡ table_words }
 {
     graph_tables::sizes::WORDS
 }
 
-#[unsafe(no_mangle)]
-pub extern "C" fn njn_run_words() -> usize
+pub fn njn_run_words() -> usize
     ensures { result ≡ run_words }
 {
     runs::WORDS
 }
 
-#[unsafe(no_mangle)]
-pub extern "C" fn njn_system_words() -> usize
+pub fn njn_system_words() -> usize
     ensures { result ≡ system_words }
 {
     system_tables::sizes::WORDS
 }
 
-#[unsafe(no_mangle)]
-pub extern "C" fn njn_state_words() -> usize
+pub fn njn_state_words() -> usize
     ensures { result ≡ state_words }
 {
     system_state::layout::WORDS
 }
 
-#[unsafe(no_mangle)]
-pub extern "C" fn njn_event_words() -> usize
+pub fn njn_event_words() -> usize
     ensures { result ≡ event_words }
 {
     given::EVENT
 }
 
-#[unsafe(no_mangle)]
-pub extern "C" fn njn_message_words() -> usize
+pub fn njn_message_words() -> usize
     ensures { result ≡ message_words }
 {
     given::MESSAGE
 }
 
-#[unsafe(no_mangle)]
-pub extern "C" fn njn_entry_words() -> usize
+pub fn njn_entry_words() -> usize
     ensures { result ≡ entry_words }
 {
     given::ENTRY
 }
 
-#[unsafe(no_mangle)]
-pub extern "C" fn njn_graph_entry_words() -> usize
+pub fn njn_graph_entry_words() -> usize
     ensures { result ≡ graph_entry_words }
 {
     given::GRAPH_ENTRY
 }
 
-#[unsafe(no_mangle)]
-pub extern "C" fn njn_value_words() -> usize
+pub fn njn_value_words() -> usize
     ensures { result ≡ value_words }
 {
     given::VALUE
 }
 
-#[unsafe(no_mangle)]
-pub extern "C" fn njn_queued_words() -> usize
+pub fn njn_queued_words() -> usize
     ensures { result ≡ queued_words }
 {
     given::QUEUED
 }
 
-#[unsafe(no_mangle)]
-pub extern "C" fn njn_places_words() -> usize
+pub fn njn_places_words() -> usize
     ensures { result ≡ places_words }
 {
     given::PLACES
 }
 
-#[unsafe(no_mangle)]
-pub extern "C" fn njn_channel_words() -> usize
+pub fn njn_channel_words() -> usize
     ensures { result ≡ channel_words }
 {
     given::CHANNEL

@@ -9,15 +9,13 @@ ghost use Rattle.c_words.specs.Handed.{channel_known, kinds_from};
 use c_words::inner::{given, handed};
 use system_tables::ids::Channel;
 
-#[unsafe(no_mangle)]
-pub extern "C" fn njn_system_new(t: &mut [u64]) -> u32
+pub fn njn_system_new(t: &mut [u64]) -> u32
     ensures { Does result t.new (doing true t.old (empty_system_of t.old)) }
 {
     given::done(system_builder::new(t))
 }
 
-#[unsafe(no_mangle)]
-pub extern "C" fn njn_system_new_program_graph(t: &mut [u64], out: &mut [u64]) -> u32
+pub fn njn_system_new_program_graph(t: &mut [u64], out: &mut [u64]) -> u32
     ensures { Gives result t.new out.new (placing true t.old out.old (new_graph_of t.old)) }
 {
     if out.len() < given::NUMBER {
@@ -26,8 +24,7 @@ pub extern "C" fn njn_system_new_program_graph(t: &mut [u64], out: &mut [u64]) -
     given::placed(system_builder::new_program_graph(t), out)
 }
 
-#[unsafe(no_mangle)]
-pub extern "C" fn njn_system_new_channel(
+pub fn njn_system_new_channel(
     t: &mut [u64],
     kinds: &[u32],
     sort: u32,
@@ -47,8 +44,7 @@ pub extern "C" fn njn_system_new_channel(
     given::placed(system_builder::new_channel(t, read, capacity), out)
 }
 
-#[unsafe(no_mangle)]
-pub extern "C" fn njn_system_channel(t: &[u64], channel: u32, out: &mut [u64]) -> u32
+pub fn njn_system_channel(t: &[u64], channel: u32, out: &mut [u64]) -> u32
     ensures { Tells result out.new (reading channel_words out.old (channel_told (channel_in t.now channel))) }
 {
     if out.len() < given::CHANNEL {
@@ -57,8 +53,7 @@ pub extern "C" fn njn_system_channel(t: &[u64], channel: u32, out: &mut [u64]) -
     given::channel(system_builder::channel(t, Channel(channel)), out)
 }
 
-#[unsafe(no_mangle)]
-pub extern "C" fn njn_system_build(t: &[u64]) -> u32
+pub fn njn_system_build(t: &[u64]) -> u32
     ensures { result ≡ (done_told (build_system_of t.now)).number }
 {
     given::done(system_builder::build(t))

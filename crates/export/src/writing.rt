@@ -9,15 +9,13 @@ ghost use Rattle.export.specs.Findings.{written_number, writing};
 use c_words::inner::given;
 use recordings::{blocks, layout, writing};
 
-#[unsafe(no_mangle)]
-pub extern "C" fn njn_block_bytes() -> usize
+pub fn njn_block_bytes() -> usize
     ensures { result ≡ block_bytes }
 {
     layout::BLOCK
 }
 
-#[unsafe(no_mangle)]
-pub extern "C" fn njn_block_records() -> usize
+pub fn njn_block_records() -> usize
     ensures { result ≡ record_room }
 {
     layout::RECORDS
@@ -32,8 +30,7 @@ fn written(done: bool) -> u32
     given::MALFORMED
 }
 
-#[unsafe(no_mangle)]
-pub extern "C" fn njn_block_put_step(
+pub fn njn_block_put_step(
     block: &mut [u8],
     i: usize,
     graph: u8,
@@ -47,15 +44,13 @@ pub extern "C" fn njn_block_put_step(
     written(writing::put_step(block, i, graph, action, posts, word, answer))
 }
 
-#[unsafe(no_mangle)]
-pub extern "C" fn njn_block_put_wait(block: &mut [u8], i: usize, delta: u32, answer: u8) -> u32
+pub fn njn_block_put_wait(block: &mut [u8], i: usize, delta: u32, answer: u8) -> u32
     ensures { Does result block.new (writing (put_of block.old i (wait delta answer))) }
 {
     written(writing::put_wait(block, i, delta, answer))
 }
 
-#[unsafe(no_mangle)]
-pub extern "C" fn njn_block_seal(block: &mut [u8], place: u32, count: usize) -> u32
+pub fn njn_block_seal(block: &mut [u8], place: u32, count: usize) -> u32
     ensures { Does result block.new (writing (seal_of block.old place count)) }
 {
     written(blocks::seal(block, place, count))

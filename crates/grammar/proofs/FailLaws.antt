@@ -16,7 +16,6 @@ use Rattle.grammar.specs.Arith.{least, most, is_zero, fitted, sum_of, difference
 use Rattle.grammar.specs.Evaluation.{blank, boolean, bools, ints, same_of, unary_of, values_of, variable_of}
 use Rattle.grammar.specs.Failing.{Outside, IntegersFail, PairFails, NegationFails}
 use Rattle.grammar.specs.declared.values.«Type».{«Type» as Kind}
-use Rattle.grammar.specs.declared.values.«Type».TheVariants as Kind
 use Rattle.grammar.specs.declared.values.Val.{Val}
 use Rattle.grammar.specs.declared.values.Val.TheVariants.{Boolean, Integer}
 use Rattle.grammar.specs.declared.values.Slot.{Slot}

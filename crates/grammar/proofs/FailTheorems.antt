@@ -25,7 +25,6 @@ use Rattle.grammar.specs.declared.items.Unary.TheVariants.{Not, Negate}
 use Rattle.grammar.specs.declared.items.Item.TheVariants as Item
 use Rattle.grammar.specs.declared.typing.Typed.{Typed}
 use Rattle.grammar.specs.declared.typing.Typed.TheVariants.{IllTyped}
-use Rattle.grammar.specs.declared.typing.Typed.TheVariants as Typed
 use Rattle.grammar.specs.declared.evaluation.Evaluated.{Evaluated}
 use Rattle.grammar.specs.declared.evaluation.Evaluated.TheVariants.{Known, NoValue}
 use Rattle.grammar.proofs.IllLaws.{ill_typed}

@@ -1,23 +1,18 @@
 -- Laws of kinds as numbers.
 use Prim.Native.Nat.{ℕ, zero, suc, ◌≤◌, ◌<◌, ◌/◌, ◌%◌}
 use mathlib.Core.Path.{◌≡◌, refl, sym, ap, ◌∙◌}
-use mathlib.Core.Bool.{cond}
 use mathlib.Core.List.{List, [], ◌∷◌}
-use native.Mathlib.Nat.{lt_irrefl, not-suc-le-zero, le_of_suc-le-suc}
-use native.Mathlib.Omega.{arith}
-use borrow.Author.Tests.{eqb-false, le-leb, lt-leb}
-use lib.Dec.{eqb, lit≤}
+use native.Mathlib.Nat.{not-suc-le-zero, le_of_suc-le-suc}
+use borrow.Author.Tests.{le-leb, lt-leb}
 use lib.ListN.{length, get_or}
 use Rattle.laws.proofs.Ladder.{passed, stopped}
-use Rattle.grammar.specs.Values.{kind_word}
-use Rattle.grammar.specs.Items.{Read, operand_of, takes_of, item_of}
+use Rattle.grammar.specs.Items.{Read, operand_of, item_of}
 use Rattle.grammar.specs.Run.{made, gives}
-use Rattle.grammar.specs.Typing.{Kinded, of, ill, takes1, takes2, alike, kinded_at, kind_step, judged}
-use Rattle.grammar.specs.Inner.{row_of, kinded_word, operand_kind}
+use Rattle.grammar.specs.Typing.{of, ill, kinded_at, kind_step, judged}
+use Rattle.grammar.specs.Inner.{operand_kind}
 use Rattle.grammar.specs.declared.values.«Type».{«Type» as Kind}
-use Rattle.grammar.specs.declared.values.«Type».TheVariants.{Boolean, Integer}
 use Rattle.grammar.specs.declared.typing.Typed.TheVariants.{Known, TooDeep}
-use Rattle.grammar.proofs.ItemLaws.{high, operand_any, low_any}
+use Rattle.grammar.proofs.ItemLaws.{high, operand_any}
 
 pub kinded_ill : (n : ℕ) → (n ≡ 0 → ⊥) → (n ≡ 1 → ⊥) → kinded_at n ≡ ill
 kinded_ill zero a b = absurd (a refl)

@@ -1,11 +1,11 @@
 -- What the number of an expression says of its kind and its draws.
-use Prim.Native.Nat.{ℕ, zero, suc, ◌+◌, ◌*◌, ◌/◌, ◌%◌, ◌≤◌, ◌<◌}
-use mathlib.Core.Path.{◌≡◌, refl, sym, ap, ◌∙◌}
-use mathlib.Core.Bool.{Bool, true, false, cond, not}
+use Prim.Native.Nat.{ℕ, zero, suc, ◌+◌, ◌*◌, ◌%◌, ◌≤◌, ◌<◌}
+use mathlib.Core.Path.{◌≡◌, refl, sym, ◌∙◌}
+use mathlib.Core.Bool.{true}
 use mathlib.Core.List.{List, [], ◌∷◌}
 use native.Mathlib.Omega.{arith}
-use borrow.Author.Tests.{eq-eqb, ne_eqb, lt-ltb, le-ltb}
-use lib.Dec.{eqb, ltb}
+use borrow.Author.Tests.{eq-eqb, ne_eqb, le-ltb}
+use lib.Dec.{eqb}
 use lib.ListN.{length}
 use Rattle.laws.specs.Below.{◌and◌}
 use Rattle.laws.specs.Ladder.{unless}
@@ -13,7 +13,6 @@ use Rattle.laws.proofs.Tests.{never}
 use Rattle.grammar.specs.Draws.{draws_of}
 use Rattle.grammar.specs.Run.{run_of}
 use Rattle.grammar.specs.Typing.{type_of, typed_as, is_typed, kind_steps}
-use Rattle.grammar.specs.Items.{deepest}
 use Rattle.grammar.specs.Inner.{known_of, known_in, is_of, is_known, draws_told, guards_of}
 use Rattle.grammar.specs.declared.values.«Type».TheVariants.{Boolean, Integer}
 use Rattle.grammar.specs.declared.typing.Typed.{Typed}

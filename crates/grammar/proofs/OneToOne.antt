@@ -16,7 +16,6 @@ use Rattle.grammar.specs.Slots.{val_of, kind_in, payload_in, is_value, FitVal}
 use Rattle.grammar.specs.declared.values.Val.{Val}
 use Rattle.grammar.specs.declared.values.Val.TheVariants.{Boolean}
 use Rattle.grammar.specs.declared.items.Item.{Item}
-use Rattle.grammar.specs.declared.items.Item.TheVariants as Item
 use Rattle.grammar.proofs.BitLaws.{from_low, from_high}
 use Rattle.grammar.proofs.ItemLaws.{low_any, high}
 use Rattle.grammar.proofs.SlotLaws.{val_back}

@@ -7,7 +7,7 @@ use lib.ListN.{length, get_or, drop}
 use lib.Pow.{pow_mono}
 use Rattle.grammar.specs.Items.{item_of, operand_of, takes_of, deepest}
 use Rattle.grammar.specs.Draws.{draws_in, draws_of}
-use Rattle.grammar.specs.Run.{Step, Ran, gives, stuck, run_of, size_of, made}
+use Rattle.grammar.specs.Run.{Step, Ran, gives, run_of, made}
 use Rattle.grammar.specs.Typing.{Kinded, ill, kinded_at, kind_step, kind_steps, judged}
 use Rattle.grammar.specs.Inner.{kinded_word, operand_kind, plane_of, Left, code_of}
 use Rattle.grammar.specs.declared.typing.Typed.{Typed}

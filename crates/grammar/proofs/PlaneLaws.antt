@@ -9,8 +9,8 @@ use borrow.Author.Tests.{eqb-false}
 use lib.Dec.{lit<, lit≤}
 use lib.Pow.{pow_mono, pow-add, shr_lt, mod-pow-add}
 use Rattle.grammar.specs.Items.{Read, item_of}
-use Rattle.grammar.specs.Run.{Step, push, change, join, Ran, gives, stuck, run_of, size_of, made}
-use Rattle.grammar.specs.Typing.{Kinded, of, ill, takes1, takes2, alike, kinded_at, kind_step, kind_steps, judged}
+use Rattle.grammar.specs.Run.{Step, push, change, join, gives, stuck, run_of, size_of, made}
+use Rattle.grammar.specs.Typing.{Kinded, of, ill, takes2, alike, kinded_at, kind_step, kind_steps, judged}
 use Rattle.grammar.specs.Inner.{plane_of, Left}
 use Rattle.grammar.specs.declared.values.«Type».{«Type» as Kind}
 use Rattle.grammar.specs.declared.values.«Type».TheVariants.{Boolean, Integer}

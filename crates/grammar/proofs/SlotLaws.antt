@@ -1,11 +1,11 @@
 -- Laws of values in words.
-use Prim.Native.Nat.{ℕ, zero, suc, ◌+◌, ◌-◌, ◌*◌, ◌%◌, ◌<◌, ◌≤◌}
-use mathlib.Core.Path.{◌≡◌, refl, sym, ap, ◌∙◌}
-use mathlib.Core.Bool.{true, false, cond}
+use Prim.Native.Nat.{ℕ, zero, suc, ◌+◌, ◌-◌, ◌*◌, ◌%◌, ◌<◌}
+use mathlib.Core.Path.{◌≡◌, refl, ap, ◌∙◌}
+use mathlib.Core.Bool.{true, false}
 use mathlib.Core.List.{List, [], ◌∷◌}
 use native.Mathlib.Omega.{arith}
 use lib.ListN.{length, get_or, set}
-use Rattle.grammar.specs.Bits.{bits_of, from_bits}
+use Rattle.grammar.specs.Bits.{bits_of}
 use Rattle.grammar.specs.Evaluation.{blank}
 use Rattle.grammar.specs.Slots.{val_of, kind_in, payload_in, slots_of, words_in, FitVal}
 use Rattle.grammar.specs.declared.values.Val.{Val}

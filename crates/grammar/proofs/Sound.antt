@@ -13,7 +13,6 @@ use Rattle.grammar.specs.Typing.{Kinded, of, ill, takes2, alike, unary_kind, bin
 use Rattle.grammar.specs.Arith.{least, most, is_zero, fitted, sum_of, difference_of, product_of, quotient_of, remainder_of}
 use Rattle.grammar.specs.Evaluation.{boolean, bools, ints, same_of, strict2, unary_of, binary_of, variable_of, value_step, value_steps}
 use Rattle.grammar.specs.declared.values.«Type».{«Type» as Kind}
-use Rattle.grammar.specs.declared.values.«Type».TheVariants as Kind
 use Rattle.grammar.specs.declared.values.Val.TheVariants.{Boolean, Integer}
 use Rattle.grammar.specs.declared.values.Slot.{Slot}
 use Rattle.grammar.specs.declared.items.Unary.{Unary}

@@ -27,7 +27,6 @@ use Rattle.grammar.specs.declared.items.Unary.TheVariants.{Not, Negate}
 use Rattle.grammar.specs.declared.items.Binary.TheVariants.{And, Or, Add, Subtract, Multiply, Divide, Remainder, Equal, Less}
 use Rattle.grammar.specs.declared.items.Binary.TheVariants.{LessOrEqual}
 use Rattle.grammar.specs.declared.items.Item.{Item}
-use Rattle.grammar.specs.declared.items.Item.TheVariants as Item
 use Rattle.grammar.specs.declared.typing.Typed.{Typed}
 use Rattle.grammar.specs.declared.typing.Typed.TheVariants.{Known, TableFull, TooDeep}
 use Rattle.grammar.specs.declared.evaluation.Evaluated.{Evaluated}

@@ -14,7 +14,6 @@ use Rattle.grammar.specs.declared.values.«Type».{«Type» as Kind}
 use Rattle.grammar.specs.declared.values.Val.{Val}
 use Rattle.grammar.specs.declared.values.Val.TheVariants.{Boolean, Integer}
 use Rattle.grammar.specs.declared.items.Item.{Item}
-use Rattle.grammar.specs.declared.items.Item.TheVariants as Item
 use Rattle.grammar.specs.declared.typing.Typed.TheVariants.{Known}
 use Rattle.grammar.proofs.Theorems.{Proper, read_back}
 use Rattle.grammar.proofs.OneToOne.{word_back}

@@ -5,32 +5,32 @@ use mathlib.Core.Bool.{Bool, true, false, cond}
 use mathlib.Core.List.{List, [], ◌∷◌}
 use native.Mathlib.Decide.{dec_lt}
 use native.Mathlib.Omega.{arith}
-use borrow.Author.Tests.{le-leb, lt-leb, ne_eqb, eqb-true}
+use borrow.Author.Tests.{le-leb, ne_eqb, eqb-true}
 use lib.Dec.{eqb, ltb, lit≤}
 use lib.ListN.{length, get_or, take, drop, length-take, length-drop, get_or-eq_default}
 use lib.Seq.{get_or-take, get_or-drop}
 use Rattle.laws.specs.Below.{◌and◌}
 use Rattle.laws.proofs.BelowLaws.{and_first, and_rest}
-use Rattle.laws.proofs.Ladder.{passed, stopped}
+use Rattle.laws.proofs.Ladder.{passed}
 use Rattle.laws.proofs.Tests.{never}
 use Rattle.grammar.specs.Values.{kind_word}
 use Rattle.grammar.specs.Bits.{from_bits}
-use Rattle.grammar.specs.Items.{Read, item, none, constant, item_of, operand_of, takes_of, deepest}
+use Rattle.grammar.specs.Items.{Read, item, none, constant, item_of, takes_of, deepest}
 use Rattle.grammar.specs.Draws.{draws_in, draws_of}
 use Rattle.grammar.specs.Run.{Step, push, Ran, gives, stuck, run_of}
-use Rattle.grammar.specs.Typing.{Kinded, of, ill, kinded_at, variable_kind, kind_step, kind_steps, judged, type_of}
+use Rattle.grammar.specs.Typing.{Kinded, of, ill, kinded_at, kind_step, kind_steps, judged, type_of}
 use Rattle.grammar.specs.Inner.{digits_of, left_of, known_of, known_in}
 use Rattle.grammar.specs.declared.values.«Type».{«Type» as Kind}
 use Rattle.grammar.specs.declared.values.Val.TheVariants.{Boolean, Integer}
 use Rattle.grammar.specs.declared.items.Item.TheVariants as Item
 use Rattle.grammar.specs.declared.typing.Typed.{Typed}
-use Rattle.grammar.specs.declared.typing.Typed.TheVariants.{Known, TooDeep, IllTyped}
+use Rattle.grammar.specs.declared.typing.Typed.TheVariants.{IllTyped}
 use Rattle.grammar.proofs.ItemLaws.{high, low_any, no_draw, takes_operand}
 use Rattle.grammar.proofs.KindLaws.{get_d_any, judged_deep, judged_known}
 use Rattle.grammar.proofs.DrawLaws.{draws_next, draws_done, draws_few}
 use Rattle.grammar.proofs.StepLaws.{kind_size, kind_next, kind_done, deepest_next, deepest_least, deepest_done}
 use Rattle.grammar.proofs.PlaneLaws.{no_variables}
-use Rattle.grammar.proofs.DigitLaws.{word_small, stack_of, After, goes_on, fails, full, not_full}
+use Rattle.grammar.proofs.DigitLaws.{word_small, stack_of, goes_on, fails, full, not_full}
 
 -- the run from here on is the whole run, and so are the draws and the operands that wait; no more than 16 did
 pub record Walk (items kinds : List ℕ) (waiting draws at : ℕ) : Type 0 where

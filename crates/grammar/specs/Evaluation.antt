@@ -1,5 +1,5 @@
 -- The value of an expression, or none, and what is left of the word (docs/RULES.md, Expressions).
-use Rattle.std.specs.Prelude.{ℕ, ◌/◌, ◌%◌, ◌^◌, Bool, true, false, not, cond, ◌&&◌, ◌||◌, List, [], ◌∷◌, eqb, leb, ltb, ℤ, pos, get_or}
+use Rattle.std.specs.Prelude.{ℕ, ◌/◌, ◌%◌, ◌^◌, Bool, false, not, cond, ◌&&◌, ◌||◌, List, [], ◌∷◌, eqb, leb, ltb, ℤ, pos, get_or}
 use Rattle.std.specs.Int.Signed.{lt_z, le_z}
 use Rattle.laws.specs.Ladder.{unless}
 use Rattle.grammar.specs.Values.{same_val}

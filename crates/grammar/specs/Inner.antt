@@ -11,9 +11,7 @@ use Rattle.grammar.specs.declared.values.Val.{Val}
 use Rattle.grammar.specs.declared.values.Val.TheVariants.{Boolean, Integer}
 use Rattle.grammar.specs.declared.items.Item.TheVariants as Item
 use Rattle.grammar.specs.declared.values.«Type».{«Type» as Kind}
-use Rattle.grammar.specs.declared.values.«Type».TheVariants as Kind
 use Rattle.grammar.specs.declared.typing.Typed.{Typed}
-use Rattle.grammar.specs.declared.typing.Typed.TheVariants as Typed
 use Rattle.grammar.specs.declared.waiting.Waiting.{Waiting}
 use Rattle.grammar.specs.declared.evaluation.Evaluated.{Evaluated}
 use Rattle.grammar.specs.declared.evaluation.Evaluated.TheVariants.{Known, NoValue}

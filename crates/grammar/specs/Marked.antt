@@ -1,5 +1,5 @@
 -- Marked examples of expressions, and others: each operation, each edge.
-use Rattle.std.specs.Prelude.{ℕ, Bool, true, false, List, [], ◌∷◌, ◌++◌, map, ℤ, pos, negsuc, replicate}
+use Rattle.std.specs.Prelude.{Bool, true, false, List, [], ◌∷◌, ◌++◌, map, ℤ, pos, negsuc, replicate}
 use Rattle.laws.specs.Examples.{Examples, end, gives}
 use Rattle.grammar.specs.Items.{word_of}
 use Rattle.grammar.specs.Typing.{type_of}
@@ -14,7 +14,6 @@ use Rattle.grammar.specs.declared.items.Item.{Item}
 use Rattle.grammar.specs.declared.items.Item.TheVariants.{Constant, Variable, Unary, Binary, Draw}
 use Rattle.grammar.specs.declared.typing.Typed.{Typed}
 use Rattle.grammar.specs.declared.typing.Typed.TheVariants.{IllTyped, TableFull}
-use Rattle.grammar.specs.declared.typing.Typed.TheVariants as Typed
 use Rattle.grammar.specs.declared.evaluation.Evaluated.{Evaluated}
 use Rattle.grammar.specs.declared.evaluation.Evaluated.TheVariants.{Known, NoValue}
 

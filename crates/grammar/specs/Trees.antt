@@ -8,7 +8,6 @@ use Rattle.grammar.specs.declared.values.Slot.{Slot}
 use Rattle.grammar.specs.declared.items.Unary.{Unary}
 use Rattle.grammar.specs.declared.items.Binary.{Binary}
 use Rattle.grammar.specs.declared.items.Item.{Item}
-use Rattle.grammar.specs.declared.items.Item.TheVariants as Item
 use Rattle.grammar.specs.declared.evaluation.Evaluated.TheVariants.{Known}
 use Rattle.grammar.specs.declared.evaluation.Evaluation.{Evaluation}
 

@@ -12,7 +12,6 @@ use Rattle.graph_tables.proofs.FormedLaws.{counted}
 use Rattle.graph_tables.specs.declared.refusals.Refusal.{Refusal}
 use Rattle.graph_tables.specs.declared.answers.Placed.{Placed}
 use Rattle.graph_tables.specs.declared.answers.Done.{Done}
-use Rattle.graph_tables.specs.declared.answers.Done.TheVariants as Done
 use Rattle.graph_builder.specs.Building.{Outcome, refused_with, placed_at, not_done, done_with, done_if, placed_if}
 
 -- an answer and a table that are one outcome's

@@ -13,7 +13,6 @@ use Rattle.graph_tables.specs.Sound.{Sound}
 use Rattle.graph_tables.proofs.SoundLaws.{sound, started}
 use Rattle.graph_tables.proofs.KeptLaws.{apart, together}
 use Rattle.graph_tables.specs.declared.answers.Done.{Done}
-use Rattle.graph_tables.specs.declared.answers.Done.TheVariants as Done
 use Rattle.graph_edits.specs.Lists.{list_of}
 use Rattle.graph_checks.specs.Checks.{on_table, var_check, clock_check, action_check, process_check, reset_check, effect_check, send_check}
 use Rattle.graph_checks.specs.Checks.{receive_check, location_check, initial_check, transition_check}

@@ -21,9 +21,7 @@ use Rattle.graph_tables.specs.Formed.{well_formed, counts_formed, started_of, pa
 use Rattle.graph_tables.proofs.SoundLaws.{sound}
 use Rattle.graph_tables.proofs.KeptLaws.{apart, together}
 use Rattle.graph_tables.specs.declared.answers.Done.{Done}
-use Rattle.graph_tables.specs.declared.answers.Done.TheVariants as Done
 use Rattle.graph_tables.specs.declared.answers.VarType.{VarType}
-use Rattle.graph_tables.specs.declared.answers.VarType.TheVariants as VarType
 use Rattle.graph_edits.specs.Lists.{list_of, Before}
 use Rattle.graph_edits.proofs.KeyLaws.{key_back, key_order}
 use Rattle.graph_checks.specs.Checks.{var_check, clock_check, action_check, process_check, reset_check, effect_check, send_check, receive_check}

@@ -1,5 +1,5 @@
 -- Building one graph (docs/RULES.md, 'Building'). Each call gives an answer and the table afterwards; a refusal leaves every word.
-use Rattle.std.specs.Prelude.{ℕ, ◌+◌, Bool, true, false, cond, List, [], eqb, ltb, length, set}
+use Rattle.std.specs.Prelude.{ℕ, Bool, true, false, cond, List, [], eqb, ltb, length, set}
 use Rattle.laws.specs.Ladder.{unless}
 use Rattle.grammar.specs.Values.{kind_of, kind_word}
 use Rattle.grammar.specs.Bits.{bits_of}
@@ -19,11 +19,8 @@ use Rattle.graph_edits.specs.Edits.{with_transition}
 use Rattle.graph_checks.specs.Checks.{var_check, clock_check, action_check, process_check, reset_check, effect_check, send_check, receive_check}
 use Rattle.graph_checks.specs.Checks.{location_check, initial_check, transition_check}
 use Rattle.graph_tables.specs.declared.answers.Placed.{Placed}
-use Rattle.graph_tables.specs.declared.answers.Placed.TheVariants as Placed
 use Rattle.graph_tables.specs.declared.answers.Done.{Done}
-use Rattle.graph_tables.specs.declared.answers.Done.TheVariants as Done
 use Rattle.graph_tables.specs.declared.answers.VarType.{VarType}
-use Rattle.graph_tables.specs.declared.answers.VarType.TheVariants as VarType
 
 pub record Outcome (A : Type 0) : Type 0 where
   pub answer : A

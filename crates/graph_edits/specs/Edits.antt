@@ -1,5 +1,5 @@
 -- A part more in a table, where there is room for it: all words afterwards.
-use Rattle.std.specs.Prelude.{ℕ, zero, suc, ◌+◌, ◌*◌, ◌<◌, ◌≡◌, true, cond, List, eqb, length, set}
+use Rattle.std.specs.Prelude.{ℕ, zero, suc, ◌+◌, ◌<◌, ◌≡◌, true, cond, List, eqb, length, set}
 use Rattle.time.specs.Time.{in_range}
 use Rattle.time.specs.declared.Bound.{Bound}
 use Rattle.time.specs.declared.Bound.TheVariants.{Included, Excluded, Unbounded}

@@ -1,15 +1,11 @@
 -- Refusals and their numbers are one to one, and so an answer's number says which refusal it is, or that it is none.
-use Prim.Native.Nat.{ℕ}
 use mathlib.Core.Path.{◌≡◌, refl, sym, ap, ◌∙◌}
 use native.Mathlib.Omega.{arith}
 use Rattle.graph_tables.specs.Refusals.{number_of, refusal}
 use Rattle.graph_tables.specs.Answers.{done_number, placed_number, var_type_number}
 use Rattle.graph_tables.specs.declared.answers.Done.{Done}
-use Rattle.graph_tables.specs.declared.answers.Done.TheVariants as Done
 use Rattle.graph_tables.specs.declared.answers.Placed.{Placed}
-use Rattle.graph_tables.specs.declared.answers.Placed.TheVariants as Placed
 use Rattle.graph_tables.specs.declared.answers.VarType.{VarType}
-use Rattle.graph_tables.specs.declared.answers.VarType.TheVariants as VarType
 use Rattle.graph_tables.specs.declared.refusals.Refusal.{Refusal}
 use Rattle.graph_tables.specs.declared.refusals.Refusal.TheVariants as R
 

@@ -7,13 +7,11 @@ use native.Mathlib.Omega.{arith}
 use native.Mathlib.Numerals.{add-one}
 use borrow.Author.Tests.{ltb-true, leb-true, eqb-true, ne_eqb}
 use lib.Dec.{eqb}
-use Rattle.laws.specs.Below.{◌and◌}
 use Rattle.laws.proofs.BelowLaws.{and_first, and_rest, all_at}
 use Rattle.laws.proofs.Tests.{never}
 use Rattle.grammar.specs.Values.{kind_word}
 use Rattle.grammar.specs.Draws.{draws_of}
 use Rattle.grammar.specs.Typing.{type_of, is_typed, typed_as}
-use Rattle.grammar.specs.declared.values.«Type».TheVariants as Kind
 use Rattle.grammar.specs.declared.values.«Type».{«Type» as Kind}
 use Rattle.grammar.specs.declared.typing.Typed.{Typed}
 use Rattle.grammar.specs.declared.typing.Typed.TheVariants.{Known, IllTyped, TableFull, TooDeep}

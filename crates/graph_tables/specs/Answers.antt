@@ -2,11 +2,8 @@
 use Rattle.std.specs.Prelude.{ℕ}
 use Rattle.graph_tables.specs.Refusals.{number_of}
 use Rattle.graph_tables.specs.declared.answers.Done.{Done}
-use Rattle.graph_tables.specs.declared.answers.Done.TheVariants as Done
 use Rattle.graph_tables.specs.declared.answers.Placed.{Placed}
-use Rattle.graph_tables.specs.declared.answers.Placed.TheVariants as Placed
 use Rattle.graph_tables.specs.declared.answers.VarType.{VarType}
-use Rattle.graph_tables.specs.declared.answers.VarType.TheVariants as VarType
 
 abbrev pub done_number : Done → ℕ
 done_number Done.Accepted = 0

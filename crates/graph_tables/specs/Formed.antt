@@ -1,6 +1,6 @@
 -- A table is well formed: no count above its size, no number that names nothing, nothing that building would refuse or
 -- order otherwise. What stands in unused words is not looked at.
-use Rattle.std.specs.Prelude.{ℕ, zero, suc, ◌+◌, ◌/◌, ◌%◌, Bool, true, false, cond, ◌||◌, List, eqb, leb, ltb, length}
+use Rattle.std.specs.Prelude.{ℕ, zero, suc, ◌/◌, ◌%◌, Bool, true, false, cond, ◌||◌, List, eqb, leb, ltb, length}
 use Rattle.laws.specs.Below.{◌and◌, all_below, sum_below}
 use Rattle.time.specs.Time.{in_range}
 use Rattle.grammar.specs.Draws.{draws_of}

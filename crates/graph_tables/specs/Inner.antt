@@ -1,5 +1,5 @@
 -- What the inner functions say of expressions in a table. No public call speaks of it.
-use Rattle.std.specs.Prelude.{ℕ, suc, ◌+◌, Bool, cond, List, leb, take, drop}
+use Rattle.std.specs.Prelude.{ℕ, ◌+◌, Bool, cond, List, leb, take, drop}
 use Rattle.laws.specs.Below.{◌and◌, all_below, sum_below}
 use Rattle.grammar.specs.Inner.{known_in}
 use Rattle.graph_tables.specs.Sizes.{item_room, draw_room}

@@ -6,7 +6,6 @@ use Rattle.grammar.specs.Values.{kind_word}
 use Rattle.grammar.specs.Draws.{draws_of}
 use Rattle.grammar.specs.Typing.{type_of}
 use Rattle.grammar.specs.declared.values.«Type».{«Type» as Kind}
-use Rattle.grammar.specs.declared.values.«Type».TheVariants as Kind
 use Rattle.grammar.specs.declared.typing.Typed.TheVariants.{Known}
 use Rattle.graph_tables.specs.Sizes.{process_room, location_room, action_room, transition_room, variable_room, clock_room, limit_room}
 use Rattle.graph_tables.specs.Sizes.{effect_room, reset_room, draw_room, message_room, item_room, word32}

@@ -1,3 +1,2 @@
 // Definitions and laws that every crate cites. There is no code here.
 #![tactic(auto)]
-

@@ -1,19 +1,15 @@
 -- Actions that a call puts in a graph of a system: what the graph's own calls say of them, and their communications.
 use Prim.Native.Nat.{ℕ, ◌<◌}
-use mathlib.Core.Path.{◌≡◌, refl, sym, ap, ◌∙◌}
+use mathlib.Core.Path.{◌≡◌, refl, ap, ◌∙◌}
 use mathlib.Core.Bool.{true}
 use mathlib.Core.List.{List}
 use native.Mathlib.Omega.{arith}
-use lib.ListN.{length}
-use Rattle.graph_tables.specs.Layout.{table_words}
 use Rattle.graph_tables.specs.Sizes.{action_room}
 use Rattle.graph_tables.specs.Formed.{well_formed}
 use Rattle.graph_tables.proofs.SoundLaws.{sound}
 use Rattle.graph_tables.specs.declared.handed.Vars.{Vars}
 use Rattle.graph_tables.specs.declared.answers.Placed.{Placed}
-use Rattle.graph_tables.specs.declared.answers.Placed.TheVariants as Placed
 use Rattle.graph_tables.specs.declared.answers.Done.{Done}
-use Rattle.graph_tables.specs.declared.answers.Done.TheVariants as Done
 use Rattle.graph_checks.specs.Checks.{action_check, send_check, receive_check}
 use Rattle.graph_checks.proofs.ReadyParts.{action_ready}
 use Rattle.graph_checks.proofs.ReadyActions.{send_ready, receive_ready}
@@ -21,7 +17,7 @@ use Rattle.graph_builder.specs.Building.{Outcome, placed_if, new_action_of, new_
 use Rattle.graph_builder.proofs.FormedCalls.{action_stays, send_stays, receive_stays}
 use Rattle.system_tables.specs.Sizes.{graph_room}
 use Rattle.system_tables.specs.Words.{SystemWords, graph_count, graph_part}
-use Rattle.system_tables.specs.Formed.{system_formed, graph_formed}
+use Rattle.system_tables.specs.Formed.{graph_formed}
 use Rattle.system_tables.specs.declared.ids.Communication.{Communication}
 use Rattle.system_tables.proofs.FrameLaws.{with_graph_elsewhere}
 use Rattle.system_tables.proofs.KeptLaws.{Formed, apart}

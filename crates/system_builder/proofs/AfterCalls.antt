@@ -12,9 +12,7 @@ use Rattle.graph_tables.specs.Answers.{done_number, placed_number}
 use Rattle.graph_tables.specs.Refusals.{number_of}
 use Rattle.graph_tables.specs.declared.refusals.Refusal.{Refusal}
 use Rattle.graph_tables.specs.declared.answers.Placed.{Placed}
-use Rattle.graph_tables.specs.declared.answers.Placed.TheVariants as Placed
 use Rattle.graph_tables.specs.declared.answers.Done.{Done}
-use Rattle.graph_tables.specs.declared.answers.Done.TheVariants as Done
 use Rattle.graph_tables.proofs.NumberLaws.{above_ok}
 use Rattle.graph_tables.proofs.SoundLaws.{sound}
 use Rattle.graph_builder.specs.Building.{Outcome, new_var_of, new_clock_of, new_action_of, new_process_of, add_reset_of, add_effect_of}

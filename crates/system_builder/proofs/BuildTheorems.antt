@@ -17,7 +17,6 @@ use Rattle.graph_tables.specs.Formed.{well_formed}
 use Rattle.graph_tables.specs.Answers.{done_number}
 use Rattle.graph_tables.proofs.KeptLaws as own-parts
 use Rattle.graph_tables.specs.declared.answers.Done.{Done}
-use Rattle.graph_tables.specs.declared.answers.Done.TheVariants as Done
 use Rattle.graph_checks.specs.Checks.{refused_by}
 use Rattle.graph_checks.proofs.CheckLaws.{unless_on}
 use Rattle.graph_builder.specs.Building.{build_of}

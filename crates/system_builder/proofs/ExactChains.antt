@@ -19,7 +19,7 @@ use Rattle.system_tables.specs.Formed.{system_formed}
 use Rattle.system_tables.specs.Sound.{MessageSound, ProbeSound, CommunicationSound}
 use Rattle.system_tables.proofs.FrameLaws.{CommunicationsSame, GraphSame}
 use Rattle.system_tables.proofs.KeptLaws.{Formed, apart, MessageSame, ActionSame, same_action}
-use Rattle.system_builder.specs.Chains.{OnGraph, after_on, answer_on, Fits, own_call, Call, on_graph_lem, after, after_all, AllFit}
+use Rattle.system_builder.specs.Chains.{OnGraph, after_on, answer_on, Fits, own_call, Call, on_graph_lem, after_all, AllFit}
 use Rattle.system_builder.specs.Built.{AllAccepted, made_on, actions_after, all_on}
 use Rattle.system_builder.proofs.ActionLaws.{part_formed}
 use Rattle.system_builder.proofs.Theorems.{others_stay}

@@ -22,9 +22,7 @@ use Rattle.graph_tables.specs.Answers.{done_number, placed_number}
 use Rattle.graph_tables.specs.declared.refusals.Refusal.{Refusal}
 use Rattle.graph_tables.specs.declared.handed.Vars.{Vars}
 use Rattle.graph_tables.specs.declared.answers.Placed.{Placed}
-use Rattle.graph_tables.specs.declared.answers.Placed.TheVariants as Placed
 use Rattle.graph_tables.specs.declared.answers.Done.{Done}
-use Rattle.graph_tables.specs.declared.answers.Done.TheVariants as Done
 use Rattle.graph_tables.proofs.MessageLaws.{plain_kind_lem, send_kind_lem, receive_kind_lem}
 use Rattle.graph_edits.specs.Edits.{with_expressions}
 use Rattle.graph_edits.specs.Lists.{list_of, plain, send, receive}
@@ -46,8 +44,8 @@ use Rattle.system_tables.proofs.KeptLaws.{apart}
 use Rattle.system_builder.specs.Graphs.{member_check, only_if, on_part, placed_on, telling}
 use Rattle.system_builder.specs.Messages.{known_check, if_read, sent_typed, sent_fits, sent_check, send_check_on, send_part, new_send_on}
 use Rattle.system_builder.specs.Messages.{received_fits, received_check, receive_check_on, receive_part, new_receive_on, no_values, new_probe_on}
-use Rattle.system_builder.specs.Chains.{OnGraph, new_var, new_clock, new_action, new_process, add_reset, add_effect, new_timed_location}
-use Rattle.system_builder.specs.Chains.{new_initial_location, add_transition, new_send, new_receive, new_probe, answer_on, Fits, IsProbe}
+use Rattle.system_builder.specs.Chains.{OnGraph, new_action}
+use Rattle.system_builder.specs.Chains.{new_send, new_receive, new_probe, answer_on, Fits, IsProbe}
 use Rattle.system_builder.specs.Chains.{own_call, Tells}
 use Rattle.system_builder.specs.Built.{made_on, actions_after}
 use Rattle.system_builder.proofs.ActionLaws.{part_formed}

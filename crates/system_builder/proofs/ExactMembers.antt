@@ -16,7 +16,6 @@ use Rattle.graph_tables.specs.Sizes.{message_room, word32, no_kind}
 use Rattle.graph_tables.specs.Words.{Words, action_count}
 use Rattle.graph_tables.specs.Formed.{well_formed}
 use Rattle.graph_tables.specs.declared.answers.Done.{Done}
-use Rattle.graph_tables.specs.declared.answers.Done.TheVariants as Done
 use Rattle.graph_tables.proofs.SoundLaws.{sound}
 use Rattle.graph_tables.proofs.KeptLaws as own-parts
 use Rattle.graph_edits.specs.Lists.{action_at}

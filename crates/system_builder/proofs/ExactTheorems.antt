@@ -12,9 +12,7 @@ use Rattle.graph_tables.specs.Refusals.{refusal}
 use Rattle.graph_tables.specs.Answers.{done_number, placed_number, var_type_number}
 use Rattle.graph_tables.specs.declared.refusals.Refusal.{Refusal}
 use Rattle.graph_tables.specs.declared.answers.Placed.{Placed}
-use Rattle.graph_tables.specs.declared.answers.Placed.TheVariants as Placed
 use Rattle.graph_tables.specs.declared.answers.Done.{Done}
-use Rattle.graph_tables.specs.declared.answers.Done.TheVariants as Done
 use Rattle.graph_checks.specs.Checks.{refused_by}
 use Rattle.graph_checks.proofs.CheckLaws.{then_stops}
 use Rattle.graph_builder.specs.Building.{Outcome, placed_if}

@@ -10,7 +10,6 @@ use Rattle.graph_tables.specs.Words.{action_count}
 use Rattle.graph_tables.specs.Answers.{placed_number}
 use Rattle.graph_tables.specs.declared.answers.Placed.{Placed}
 use Rattle.graph_tables.specs.declared.answers.Done.{Done}
-use Rattle.graph_tables.specs.declared.answers.Done.TheVariants as Done
 use Rattle.graph_tables.proofs.NumberLaws.{above_ok}
 use Rattle.graph_tables.proofs.SoundLaws.{sound}
 use Rattle.graph_builder.specs.Building.{Outcome, placed_if}

@@ -1,7 +1,7 @@
 -- What the checks of sends, receives and probes say.
 use Prim.Native.Nat.{ℕ, ◌<◌}
-use mathlib.Core.Path.{◌≡◌, refl, sym, ap, ◌∙◌}
-use mathlib.Core.Bool.{Bool, true, false, cond}
+use mathlib.Core.Path.{◌≡◌}
+use mathlib.Core.Bool.{Bool, true, false}
 use mathlib.Core.List.{List}
 use native.Mathlib.Omega.{arith}
 use borrow.Author.Tests.{ltb-true}
@@ -13,8 +13,7 @@ use Rattle.graph_tables.specs.Sound.{Sound}
 use Rattle.graph_tables.proofs.SoundLaws.{sound}
 use Rattle.graph_tables.specs.declared.handed.Vars.{Vars}
 use Rattle.graph_tables.specs.declared.answers.Done.{Done}
-use Rattle.graph_tables.specs.declared.answers.Done.TheVariants as Done
-use Rattle.graph_checks.specs.Checks.{◌then◌, var_known}
+use Rattle.graph_checks.specs.Checks.{var_known}
 use Rattle.graph_checks.proofs.CheckLaws.{unless_on, then_both}
 use Rattle.system_tables.specs.Sizes.{graph_room, channel_room}
 use Rattle.system_tables.specs.Words.{SystemWords, channel_count, graph_part}

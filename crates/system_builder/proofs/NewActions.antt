@@ -22,9 +22,7 @@ use Rattle.graph_tables.specs.Messages.{is_plain, is_send, is_receive, message_c
 use Rattle.graph_tables.specs.Answers.{placed_number}
 use Rattle.graph_tables.specs.declared.handed.Vars.{Vars}
 use Rattle.graph_tables.specs.declared.answers.Placed.{Placed}
-use Rattle.graph_tables.specs.declared.answers.Placed.TheVariants as Placed
 use Rattle.graph_tables.specs.declared.answers.Done.{Done}
-use Rattle.graph_tables.specs.declared.answers.Done.TheVariants as Done
 use Rattle.graph_tables.proofs.SoundLaws.{sound}
 use Rattle.graph_tables.proofs.NumberLaws.{above_ok}
 use Rattle.graph_tables.proofs.KeptLaws.{typed_grown}

@@ -12,7 +12,6 @@ use lib.Seq.{get_or-set_same, get_or-set_other}
 use Rattle.laws.proofs.BelowLaws.{and_both, all_from}
 use Rattle.grammar.specs.Values.{kind_word}
 use Rattle.grammar.specs.declared.values.«Type».{«Type» as Kind}
-use Rattle.grammar.specs.declared.values.«Type».TheVariants as Kind
 use Rattle.graph_tables.specs.Layout.{table_words}
 use Rattle.graph_tables.specs.Sizes.{message_room, no_kind}
 use Rattle.graph_tables.specs.Words.{Words, action_count}

@@ -1,6 +1,6 @@
 -- What the checks of a system say, and laws of calls on one of its graphs.
 use Prim.Native.Nat.{ℕ, ◌+◌, ◌-◌, ◌≤◌, ◌<◌}
-use mathlib.Core.Path.{◌≡◌, refl, sym, ap, ◌∙◌}
+use mathlib.Core.Path.{◌≡◌, sym, ap, ◌∙◌}
 use mathlib.Core.Bool.{Bool, true, false}
 use mathlib.Core.List.{List, ◌++◌}
 use native.Mathlib.Omega.{arith}
@@ -11,14 +11,12 @@ use Rattle.graph_tables.specs.Layout.{table_words}
 use Rattle.graph_tables.specs.Sizes.{message_room}
 use Rattle.graph_tables.specs.declared.refusals.Refusal.{Refusal}
 use Rattle.graph_tables.specs.declared.answers.Done.{Done}
-use Rattle.graph_tables.specs.declared.answers.Done.TheVariants as Done
 use Rattle.graph_tables.specs.declared.answers.VarType.{VarType}
-use Rattle.graph_tables.specs.declared.answers.VarType.TheVariants as VarType
 use Rattle.graph_checks.proofs.CheckLaws.{unless_on}
 use Rattle.graph_builder.specs.Building.{Outcome}
 use Rattle.system_tables.specs.Sizes.{graph_room, channel_room}
 use Rattle.system_tables.specs.Layout.{graph_start}
-use Rattle.system_tables.specs.Words.{SystemWords, graph_count, channel_count, graph_part, with_graph}
+use Rattle.system_tables.specs.Words.{SystemWords, graph_count, channel_count, graph_part}
 use Rattle.system_tables.specs.Ceiling.{has_room}
 use Rattle.system_tables.specs.Formed.{system_formed}
 use Rattle.system_tables.specs.declared.ids.ChannelCapacity.{ChannelCapacity}

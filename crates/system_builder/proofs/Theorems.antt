@@ -10,9 +10,7 @@ use Rattle.graph_tables.specs.Layout.{table_words}
 use Rattle.graph_tables.specs.Answers.{done_number, placed_number}
 use Rattle.graph_tables.specs.declared.refusals.Refusal.{Refusal}
 use Rattle.graph_tables.specs.declared.answers.Placed.{Placed}
-use Rattle.graph_tables.specs.declared.answers.Placed.TheVariants as Placed
 use Rattle.graph_tables.specs.declared.answers.Done.{Done}
-use Rattle.graph_tables.specs.declared.answers.Done.TheVariants as Done
 use Rattle.graph_builder.specs.Building.{Outcome, placed_if, new_var_of, new_clock_of, new_action_of, new_process_of, add_reset_of, add_effect_of}
 use Rattle.graph_builder.specs.Building.{new_timed_location_of, new_initial_of, add_transition_of, new_send_of, new_receive_of}
 use Rattle.graph_builder.specs.Chains as Own

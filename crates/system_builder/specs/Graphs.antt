@@ -6,11 +6,8 @@ use Rattle.grammar.specs.declared.values.Val.{Val}
 use Rattle.graph_tables.specs.declared.refusals.Refusal.{Refusal}
 use Rattle.graph_tables.specs.declared.handed.Limits.{Limits}
 use Rattle.graph_tables.specs.declared.answers.Placed.{Placed}
-use Rattle.graph_tables.specs.declared.answers.Placed.TheVariants as Placed
 use Rattle.graph_tables.specs.declared.answers.Done.{Done}
-use Rattle.graph_tables.specs.declared.answers.Done.TheVariants as Done
 use Rattle.graph_tables.specs.declared.answers.VarType.{VarType}
-use Rattle.graph_tables.specs.declared.answers.VarType.TheVariants as VarType
 use Rattle.graph_checks.specs.Checks.{refused_by}
 use Rattle.graph_builder.specs.Building.{Outcome, var_type_of, new_var_of, new_clock_of, new_action_of, new_process_of}
 use Rattle.graph_builder.specs.Building.{add_reset_of, add_effect_of, new_timed_location_of, new_initial_of, add_transition_of}

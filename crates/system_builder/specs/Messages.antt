@@ -9,9 +9,7 @@ use Rattle.graph_tables.specs.Words.{kind_at, kinds_of}
 use Rattle.graph_tables.specs.Handed.{handed_var}
 use Rattle.graph_tables.specs.declared.handed.Vars.{Vars}
 use Rattle.graph_tables.specs.declared.answers.Placed.{Placed}
-use Rattle.graph_tables.specs.declared.answers.Placed.TheVariants as Placed
 use Rattle.graph_tables.specs.declared.answers.Done.{Done}
-use Rattle.graph_tables.specs.declared.answers.Done.TheVariants as Done
 use Rattle.graph_edits.specs.Edits.{chosen}
 use Rattle.graph_checks.specs.Checks.{refused_by, ◌then◌, var_known}
 use Rattle.graph_builder.specs.Building.{Outcome, new_send_of, new_receive_of}

@@ -10,7 +10,6 @@ use Rattle.graph_tables.specs.Words.{process_count}
 use Rattle.graph_tables.specs.Refusals.{refusal}
 use Rattle.graph_tables.specs.declared.answers.Placed.{Placed}
 use Rattle.graph_tables.specs.declared.answers.Done.{Done}
-use Rattle.graph_tables.specs.declared.answers.Done.TheVariants as Done
 use Rattle.graph_checks.specs.Checks.{refused_by, room_for}
 use Rattle.graph_builder.specs.Building.{Outcome, not_done, done_with, placed_if, empty_of}
 use Rattle.system_tables.specs.Sizes.{graph_room, channel_room}

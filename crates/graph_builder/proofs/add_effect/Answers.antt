@@ -1,8 +1,6 @@
-use Prim.Native.Nat.{◌-◌}
 use mathlib.Core.Path.{sym, ◌∙◌}
 use mathlib.Core.Bool.{true}
 use native.Mathlib.Omega.{arith}
-use borrow.Author.Rules.{rules}
 use Rattle.graph_builder.specs.Building.{add_effect_of}
 use Rattle.graph_builder.proofs.BuildingLaws.{parts, words_of, counted_of, done_refused, done_accepted}
 use Rattle.graph_checks.proofs.ReadyActions.{effect_ready}

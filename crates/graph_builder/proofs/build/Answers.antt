@@ -5,10 +5,8 @@ use Rattle.laws.proofs.Ladder.{passed, stopped}
 use Rattle.graph_builder.proofs.BuildingLaws.{words_of}
 use Rattle.graph_builder.specs.Building.{build_of}
 use mathlib.Core.Bool.{true}
-use Prim.Native.Nat.{◌-◌}
 use mathlib.Core.Path.{refl}
 use native.Mathlib.Omega.{arith}
-use borrow.Author.Rules.{rules}
 use Rattle.graph_builder.proofs.build.Goals as goal
 
 pub returns-then-not-well_formed : goal.returns-then-not-well_formed

@@ -2,11 +2,9 @@ use borrow.Author.Tests.{eq-eqb, ne_eqb}
 use Rattle.laws.proofs.Ladder.{passed, stopped}
 use Rattle.graph_builder.proofs.BuildingLaws.{parts}
 use Rattle.graph_builder.specs.Building.{empty_of}
-use Prim.Native.Nat.{◌-◌}
 use mathlib.Core.Path.{refl}
 use native.Mathlib.Omega.{arith}
 use lib.ListN.{length-set}
-use borrow.Author.Rules.{rules}
 use Rattle.graph_builder.proofs.new.Goals as goal
 
 pub returns-then-t-ne-WORDS : goal.returns-then-t-ne-WORDS

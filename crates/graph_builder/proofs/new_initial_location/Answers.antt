@@ -1,5 +1,4 @@
 use mathlib.Core.Path.{ap, ◌∙◌}
-use borrow.Author.Rules.{rules}
 use Rattle.graph_tables.specs.declared.handed.Limits.{Limits}
 use Rattle.graph_builder.specs.Building.{new_initial_of}
 use Rattle.graph_builder.proofs.new_initial_location.Goals as goal

@@ -1,7 +1,5 @@
-use Prim.Native.Nat.{◌-◌}
 use mathlib.Core.Path.{sym, ◌∙◌}
 use mathlib.Core.Bool.{true}
-use borrow.Author.Rules.{rules}
 use Rattle.graph_builder.specs.Building.{new_process_of}
 use Rattle.graph_builder.proofs.BuildingLaws.{parts, words_of, done_refused, done_accepted}
 use Rattle.graph_checks.proofs.ReadyParts.{process_ready_lem}

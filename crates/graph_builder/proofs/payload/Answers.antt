@@ -1,7 +1,6 @@
 use mir.Syntax.{w32}
 use mir.Val.{to_z, of_z}
 use Rattle.grammar.specs.Bits.{bits_of}
-use Prim.Native.Nat.{◌-◌}
 use mathlib.Core.Path.{◌≡◌, ap, ◌∙◌}
 use borrow.Author.Rules.{rules}
 use Rattle.graph_builder.proofs.payload.Goals as goal

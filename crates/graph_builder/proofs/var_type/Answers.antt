@@ -4,9 +4,7 @@ use Rattle.laws.proofs.Ladder.{passed, stopped}
 use Rattle.graph_builder.proofs.BuildingLaws.{words_of, counted_of}
 use Rattle.graph_builder.specs.Building.{var_type_of}
 use mathlib.Core.Bool.{true}
-use Prim.Native.Nat.{◌-◌}
 use native.Mathlib.Omega.{arith}
-use borrow.Author.Rules.{rules}
 use Rattle.graph_builder.proofs.var_type.Goals as goal
 
 pub returns-then-not-well_formed : goal.returns-then-not-well_formed

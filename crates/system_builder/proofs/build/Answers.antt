@@ -1,4 +1,3 @@
-use Prim.Native.Nat.{ℕ, ◌≤◌}
 use mathlib.Core.Path.{◌≡◌, refl}
 use mathlib.Core.Bool.{true}
 use native.Mathlib.Omega.{arith}
@@ -8,7 +7,6 @@ use Rattle.graph_checks.specs.Checks.{refused_by}
 use Rattle.system_tables.specs.Formed.{system_formed}
 use Rattle.system_tables.proofs.KeptLaws.{apart}
 use Rattle.system_builder.specs.Systems.{build_system_of}
-use borrow.Author.Rules.{rules}
 use Rattle.system_builder.proofs.build.Goals as goal
 use Rattle.system_builder.proofs.build.Goals.{Else-not-system_formed}
 

@@ -1,8 +1,4 @@
-use Prim.Native.Nat.{ℕ, ◌-◌, ◌≤◌, ◌<◌}
-use mathlib.Core.Path.{◌≡◌, refl, sym, ap, ◌∙◌}
-use mathlib.Core.Bool.{true}
-use native.Mathlib.Omega.{arith}
-use borrow.Author.Rules.{rules}
+use mathlib.Core.Path.{◌≡◌, sym, ◌∙◌}
 use Rattle.graph_tables.specs.declared.answers.Done.TheVariants as Done
 use Rattle.system_builder.specs.Systems.{read_check, channel_in}
 use Rattle.system_builder.proofs.SystemLaws.{read_ready}

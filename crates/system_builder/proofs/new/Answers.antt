@@ -2,11 +2,7 @@ use borrow.Author.Tests.{eq-eqb, ne_eqb}
 use Rattle.laws.proofs.Ladder.{passed, stopped}
 use Rattle.graph_builder.proofs.BuildingLaws.{parts}
 use Rattle.system_builder.specs.Systems.{empty_system_of}
-use Prim.Native.Nat.{ℕ, zero, suc, ◌+◌, ◌-◌, ◌*◌, ◌/◌, ◌%◌, ◌≤◌, ◌<◌}
-use mathlib.Core.Path.{◌≡◌, refl, sym, ap, ◌∙◌}
-use native.Mathlib.Omega.{arith}
-use lib.ListN.{length, get_or, set, length-set}
-use borrow.Author.Rules.{rules}
+use mathlib.Core.Path.{refl}
 use Rattle.system_builder.proofs.new.Goals as goal
 
 pub returns-then-t-ne-WORDS : goal.returns-then-t-ne-WORDS

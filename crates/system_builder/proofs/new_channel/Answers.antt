@@ -6,10 +6,10 @@ use Rattle.system_tables.specs.Sizes.{channel_room}
 use Rattle.system_tables.specs.Layout.{channels_cell}
 use Rattle.system_builder.specs.Systems.{new_channel_of, with_row}
 use Rattle.system_builder.proofs.SystemLaws.{words_of, channel_ready}
-use Prim.Native.Nat.{ℕ, zero, suc, ◌+◌, ◌-◌, ◌*◌, ◌/◌, ◌%◌, ◌≤◌, ◌<◌}
-use mathlib.Core.Path.{◌≡◌, refl, sym, ap, ◌∙◌}
+use Prim.Native.Nat.{ℕ, ◌+◌, ◌<◌}
+use mathlib.Core.Path.{sym, ap, ◌∙◌}
 use native.Mathlib.Omega.{arith}
-use lib.ListN.{length, get_or, set, length-set}
+use lib.ListN.{set}
 use borrow.Author.Rules.{rules}
 use Rattle.system_builder.proofs.new_channel.Goals as goal
 

@@ -6,10 +6,10 @@ use Rattle.system_tables.specs.Sizes.{graph_room}
 use Rattle.system_tables.specs.Layout.{graphs_cell}
 use Rattle.system_builder.specs.Systems.{new_graph_of, with_no_parts}
 use Rattle.system_builder.proofs.SystemLaws.{words_of, graph_ready}
-use Prim.Native.Nat.{ℕ, zero, suc, ◌+◌, ◌-◌, ◌*◌, ◌/◌, ◌%◌, ◌≤◌, ◌<◌}
-use mathlib.Core.Path.{◌≡◌, refl, sym, ap, ◌∙◌}
+use Prim.Native.Nat.{ℕ, ◌+◌, ◌<◌}
+use mathlib.Core.Path.{sym, ap, ◌∙◌}
 use native.Mathlib.Omega.{arith}
-use lib.ListN.{length, get_or, set, length-set}
+use lib.ListN.{set}
 use borrow.Author.Rules.{rules}
 use Rattle.system_builder.proofs.new_program_graph.Goals as goal
 

@@ -6,7 +6,6 @@ use mir.Val.{of_z, to_z, Fits}
 use mir.ValLaws.{to_z-of_z, to_z_pos}
 use Rattle.grammar.proofs.BitLaws.{up, Down, down}
 use Rattle.grammar.specs.Bits.{bits_of}
-use Prim.Native.Nat.{◌-◌}
 use mathlib.Core.Path.{◌≡◌}
 use native.Mathlib.Omega.{arith}
 use Rattle.grammar.proofs.bits.bits_of.Goals as goal

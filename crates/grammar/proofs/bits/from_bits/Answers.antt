@@ -6,7 +6,6 @@ use Rattle.grammar.proofs.BitLaws.{neg_less_one, from_low, from_high}
 use Prim.Native.Nat.{◌-◌}
 use mathlib.Core.Path.{◌≡◌, sym, ap, ◌∙◌}
 use native.Mathlib.Omega.{arith}
-use borrow.Author.Rules.{rules}
 use Rattle.grammar.proofs.bits.from_bits.Goals as goal
 use Rattle.grammar.proofs.bits.from_bits.Goals.{Else-b-lt2147483648}
 

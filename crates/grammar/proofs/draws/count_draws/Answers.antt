@@ -1,13 +1,10 @@
 use Rattle.grammar.proofs.ItemLaws.{draws_most}
 use Rattle.grammar.specs.Items.{item_of}
-use lib.ListN.{drop}
-use Rattle.grammar.specs.Draws.{draws_in, draws_of}
+use Rattle.grammar.specs.Draws.{draws_in}
 use Rattle.grammar.proofs.DrawLaws.{draws_next, draws_done}
-use Prim.Native.Nat.{◌+◌, ◌-◌, ◌≤◌}
-use mathlib.Core.Path.{◌≡◌}
+use Prim.Native.Nat.{◌≤◌}
 use native.Mathlib.Omega.{arith}
-use lib.ListN.{length, get_or}
-use borrow.Author.Rules.{rules}
+use lib.ListN.{get_or}
 use Rattle.grammar.proofs.draws.count_draws.Goals as goal
 use Rattle.grammar.proofs.draws.count_draws.Goals.{After-draws_in-n}
 

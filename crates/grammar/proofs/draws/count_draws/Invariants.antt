@@ -1,13 +1,8 @@
-use Rattle.grammar.proofs.ItemLaws.{draws_most}
-use Rattle.grammar.specs.Items.{item_of}
 use lib.ListN.{drop}
-use Rattle.grammar.specs.Draws.{draws_in, draws_of}
-use Rattle.grammar.proofs.DrawLaws.{draws_next, draws_done}
+use Rattle.grammar.specs.Draws.{draws_of}
 use Prim.Native.Nat.{◌+◌, ◌-◌, ◌≤◌}
 use mathlib.Core.Path.{◌≡◌}
-use native.Mathlib.Omega.{arith}
-use lib.ListN.{length, get_or}
-use borrow.Author.Rules.{rules}
+use lib.ListN.{length}
 use Rattle.grammar.proofs.draws.count_draws.Given as goal
 
 abbrev pub invariant-loop-at : goal.invariant-loop-at

@@ -1,6 +1,5 @@
 use Rattle.grammar.specs.Items.{item_of}
 use Rattle.grammar.proofs.ItemLaws.{no_draw}
-use Prim.Native.Nat.{◌-◌}
 use mathlib.Core.Path.{sym}
 use Rattle.grammar.proofs.draws.draws_in.Goals as goal
 

@@ -2,14 +2,11 @@ use Rattle.grammar.specs.Items.{item_of}
 use Rattle.grammar.proofs.ItemLaws.{no_draw}
 use borrow.Author.Tests.{lt-ltb}
 use lib.Dec.{ltb}
-use lib.ListN.{drop}
 use Rattle.grammar.specs.Draws.{draws_in, draws_of}
 use Rattle.grammar.proofs.DrawLaws.{draws_next, draws_done}
-use Prim.Native.Nat.{◌-◌, ◌≤◌}
 use mathlib.Core.Path.{◌≡◌, refl, sym, ap, ◌∙◌}
 use native.Mathlib.Omega.{arith}
-use lib.ListN.{length, get_or}
-use borrow.Author.Rules.{rules}
+use lib.ListN.{get_or}
 use Rattle.grammar.proofs.draws.has_draws.Goals as goal
 
 pub returns-then-items-at-eq-DRAW : goal.returns-then-items-at-eq-DRAW

@@ -1,15 +1,8 @@
-use Rattle.grammar.specs.Items.{item_of}
-use Rattle.grammar.proofs.ItemLaws.{no_draw}
-use borrow.Author.Tests.{lt-ltb}
-use lib.Dec.{ltb}
 use lib.ListN.{drop}
-use Rattle.grammar.specs.Draws.{draws_in, draws_of}
-use Rattle.grammar.proofs.DrawLaws.{draws_next, draws_done}
+use Rattle.grammar.specs.Draws.{draws_of}
 use Prim.Native.Nat.{◌-◌, ◌≤◌}
-use mathlib.Core.Path.{◌≡◌, refl, sym, ap, ◌∙◌}
-use native.Mathlib.Omega.{arith}
-use lib.ListN.{length, get_or}
-use borrow.Author.Rules.{rules}
+use mathlib.Core.Path.{◌≡◌}
+use lib.ListN.{length}
 use Rattle.grammar.proofs.draws.has_draws.Given as goal
 
 abbrev pub invariant-loop-at : goal.invariant-loop-at

@@ -1,7 +1,6 @@
 use native.Mathlib.Nat.{div-one}
 use Rattle.grammar.specs.Items.{item_of}
 use Rattle.grammar.proofs.ItemLaws.{no_draw}
-use Prim.Native.Nat.{◌-◌}
 use mathlib.Core.Path.{sym}
 use Rattle.grammar.proofs.draws.left.Goals as goal
 

@@ -2,11 +2,9 @@ use Prim.Native.Nat.{◌^◌}
 use lib.ListN.{drop}
 use Rattle.grammar.specs.Draws.{draws_of}
 use Rattle.grammar.proofs.DrawLaws.{left_next, left_done}
-use Prim.Native.Nat.{ℕ, ◌+◌, ◌-◌, ◌/◌, ◌≤◌}
-use mathlib.Core.Path.{◌≡◌, sym, ap, ◌∙◌}
+use Prim.Native.Nat.{ℕ, ◌+◌, ◌/◌}
+use mathlib.Core.Path.{sym, ap, ◌∙◌}
 use native.Mathlib.Omega.{arith}
-use lib.ListN.{length}
-use borrow.Author.Rules.{rules}
 use Rattle.grammar.proofs.draws.rest.Goals as goal
 
 pub loop-at-preserved : goal.loop-at-preserved

@@ -1,12 +1,9 @@
 use Prim.Native.Nat.{◌^◌}
 use lib.ListN.{drop}
 use Rattle.grammar.specs.Draws.{draws_of}
-use Rattle.grammar.proofs.DrawLaws.{left_next, left_done}
-use Prim.Native.Nat.{ℕ, ◌+◌, ◌-◌, ◌/◌, ◌≤◌}
-use mathlib.Core.Path.{◌≡◌, sym, ap, ◌∙◌}
-use native.Mathlib.Omega.{arith}
+use Prim.Native.Nat.{◌-◌, ◌/◌, ◌≤◌}
+use mathlib.Core.Path.{◌≡◌}
 use lib.ListN.{length}
-use borrow.Author.Rules.{rules}
 use Rattle.grammar.proofs.draws.rest.Given as goal
 
 abbrev pub invariant-loop-at : goal.invariant-loop-at

@@ -1,7 +1,7 @@
 use Rattle.grammar.specs.Bits.{bits_of}
 use mir.Syntax.{w32}
 use mir.Val.{to_z, of_z}
-use Prim.Native.Nat.{ℕ, ◌+◌, ◌-◌, ◌*◌}
+use Prim.Native.Nat.{ℕ, ◌+◌, ◌*◌}
 use mathlib.Core.Path.{◌≡◌, ap, ◌∙◌}
 use borrow.Author.Rules.{rules}
 use Rattle.grammar.proofs.items.constant_word.Goals as goal

@@ -1,5 +1,4 @@
 use borrow.Author.Tests.{lt-ltb, le-ltb}
-use Prim.Native.Nat.{◌-◌}
 use Rattle.grammar.proofs.items.slot.Goals as goal
 
 pub returns-then-n-lt16 : goal.returns-then-n-lt16

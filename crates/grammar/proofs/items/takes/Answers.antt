@@ -1,7 +1,5 @@
 use Rattle.grammar.proofs.ItemLaws.{takes_low, takes_high}
-use Prim.Native.Nat.{◌-◌}
 use mathlib.Core.Path.{sym, ◌∙◌}
-use borrow.Author.Rules.{rules}
 use Rattle.grammar.proofs.items.takes.Goals as goal
 
 pub returns-then-w-lt-TRUTH : goal.returns-then-w-lt-TRUTH

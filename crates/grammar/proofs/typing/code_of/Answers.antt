@@ -1,6 +1,5 @@
 use mathlib.Core.Path.{refl, ap, ◌∙◌}
 use borrow.Author.Tests.{le-leb, lt-leb}
-use borrow.Author.Rules.{rules}
 use Rattle.laws.proofs.Ladder.{passed, stopped}
 use Rattle.grammar.specs.Typing.{type_of}
 use Rattle.grammar.specs.Draws.{draws_of}

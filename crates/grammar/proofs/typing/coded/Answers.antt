@@ -1,5 +1,4 @@
 use Rattle.grammar.proofs.CodeLaws.{code_deep, code_known}
-use borrow.Author.Rules.{rules}
 use Rattle.grammar.proofs.typing.coded.Goals as goal
 
 pub returns-then-most-gt-MOST_OPERANDS : goal.returns-then-most-gt-MOST_OPERANDS

@@ -1,8 +1,6 @@
 use Rattle.grammar.specs.Inner.{operand_kind}
 use Rattle.grammar.proofs.ItemLaws.{operand_none}
 use borrow.Author.Tests.{lt-ltb, le-ltb}
-use Prim.Native.Nat.{◌-◌}
-use borrow.Author.Rules.{rules}
 use Rattle.grammar.proofs.typing.constant_kind.Goals as goal
 
 pub returns-then-payload-lt2 : goal.returns-then-payload-lt2

@@ -1,6 +1,5 @@
 use Prim.Native.Nat.{ℕ, ◌/◌}
 use mathlib.Core.Path.{◌≡◌, ap, ◌∙◌}
-use borrow.Author.Rules.{rules}
 use Rattle.grammar.specs.Typing.{type_of}
 use Rattle.grammar.specs.Draws.{draws_of}
 use Rattle.grammar.specs.Inner.{typed_in}

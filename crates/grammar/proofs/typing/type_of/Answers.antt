@@ -1,5 +1,4 @@
 use mathlib.Core.Path.{ap, ◌∙◌}
-use borrow.Author.Rules.{rules}
 use Rattle.grammar.specs.Inner.{typed_in}
 use Rattle.grammar.proofs.CodeLaws.{typed_back}
 use Rattle.grammar.proofs.typing.type_of.Goals as goal

@@ -2,9 +2,8 @@ use lib.ListN.{get_or-eq_default}
 use Rattle.grammar.proofs.KindLaws.{kinded_ill, get_d_any}
 use Rattle.grammar.specs.Typing.{kinded_at}
 use Rattle.grammar.specs.Inner.{kinded_word}
-use Prim.Native.Nat.{ℕ, ◌-◌}
+use Prim.Native.Nat.{ℕ}
 use mathlib.Core.Path.{sym, ap, ◌∙◌}
-use borrow.Author.Rules.{rules}
 use Rattle.grammar.proofs.typing.variable_kind.Goals as goal
 
 pub returns-then-k-eq0 : goal.returns-then-k-eq0

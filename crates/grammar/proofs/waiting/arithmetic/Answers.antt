@@ -1,8 +1,6 @@
-use Prim.Native.Nat.{ℕ, ◌/◌, ◌%◌, ◌≤◌, ◌<◌, ◌^◌}
-use mathlib.Core.Path.{◌≡◌, refl}
+use mathlib.Core.Path.{refl}
 use native.Mathlib.Omega.{arith}
 use Rattle.grammar.proofs.PlaneLaws.{two_wait, not_integers, none_joined, both_integers}
-use borrow.Author.Rules.{rules}
 use Rattle.grammar.proofs.waiting.arithmetic.Goals as goal
 
 pub returns-then-integers-ne3 : goal.returns-then-integers-ne3

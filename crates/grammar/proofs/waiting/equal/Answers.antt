@@ -1,8 +1,6 @@
-use Prim.Native.Nat.{ℕ, ◌/◌, ◌%◌, ◌≤◌, ◌<◌, ◌^◌}
-use mathlib.Core.Path.{◌≡◌, refl}
+use mathlib.Core.Path.{refl}
 use native.Mathlib.Omega.{arith}
 use Rattle.grammar.proofs.PlaneLaws.{two_wait, not_alike, none_joined, both_integers, both_booleans}
-use borrow.Author.Rules.{rules}
 use Rattle.grammar.proofs.waiting.equal.Goals as goal
 
 pub overflow_sub-result : goal.overflow_sub-result

@@ -1,8 +1,6 @@
-use Prim.Native.Nat.{ℕ, ◌/◌, ◌%◌, ◌≤◌, ◌<◌, ◌^◌}
-use mathlib.Core.Path.{◌≡◌, refl}
+use mathlib.Core.Path.{refl}
 use native.Mathlib.Omega.{arith}
 use Rattle.grammar.proofs.PlaneLaws.{not_booleans, none_joined, both_booleans}
-use borrow.Author.Rules.{rules}
 use Rattle.grammar.proofs.waiting.logic.Goals as goal
 
 pub returns-then-depth-lt2 : goal.returns-then-depth-lt2

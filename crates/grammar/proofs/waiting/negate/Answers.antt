@@ -1,8 +1,7 @@
-use Prim.Native.Nat.{ℕ, ◌/◌, ◌%◌, ◌≤◌, ◌<◌, ◌^◌}
-use mathlib.Core.Path.{◌≡◌, refl}
+use Prim.Native.Nat.{◌%◌}
+use mathlib.Core.Path.{◌≡◌}
 use native.Mathlib.Omega.{arith}
 use Rattle.grammar.proofs.PlaneLaws.{none_changed, left_changed}
-use borrow.Author.Rules.{rules}
 use Rattle.grammar.proofs.waiting.negate.Goals as goal
 
 pub returns-then-integers-ne1 : goal.returns-then-integers-ne1

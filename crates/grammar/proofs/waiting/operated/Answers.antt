@@ -1,8 +1,6 @@
-use mathlib.Core.Path.{◌≡◌}
 use native.Mathlib.Omega.{arith}
 use Rattle.grammar.specs.Items.{item_of}
 use Rattle.grammar.proofs.PlaneLaws.{none_left, arithmetic, order, logic}
-use borrow.Author.Rules.{rules}
 use Rattle.grammar.proofs.waiting.operated.Goals as goal
 
 pub returns-then-w-eq-NEGATE : goal.returns-then-w-eq-NEGATE

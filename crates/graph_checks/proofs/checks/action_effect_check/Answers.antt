@@ -5,7 +5,6 @@ use Rattle.graph_checks.proofs.CheckLaws.{then_on, then_stops}
 use Rattle.graph_checks.proofs.ReadyActions.{plain_ready}
 use mathlib.Core.Path.{◌≡◌, sym, ◌∙◌}
 use native.Mathlib.Omega.{arith}
-use borrow.Author.Rules.{rules}
 use Rattle.graph_checks.proofs.checks.action_effect_check.Goals as goal
 use Rattle.graph_checks.proofs.checks.action_effect_check.Goals.{In_default}
 

@@ -1,14 +1,10 @@
 use Rattle.laws.specs.Below.{all_below}
-use Rattle.laws.proofs.BelowLaws.{all_none, all_more, all_fails, all_done}
-use Rattle.laws.proofs.Tests.{held, failed}
 use Rattle.graph_tables.specs.Words.{kinds_of}
 use Rattle.graph_edits.specs.Edits.{chosen}
 use Rattle.graph_checks.specs.Checks.{shallow}
 use mathlib.Core.Bool.{true}
 use Prim.Native.Nat.{◌-◌, ◌≤◌}
-use mathlib.Core.Path.{◌≡◌, sym}
-use native.Mathlib.Omega.{arith}
-use borrow.Author.Rules.{rules}
+use mathlib.Core.Path.{◌≡◌}
 use Rattle.graph_checks.proofs.checks.all_shallow.Given as goal
 
 abbrev pub invariant-loop-i : goal.invariant-loop-i

@@ -1,12 +1,8 @@
 use Prim.Native.Nat.{◌-◌, ◌≤◌}
 use mathlib.Core.Bool.{true}
-use mathlib.Core.Path.{◌≡◌, sym}
-use native.Mathlib.Omega.{arith}
-use borrow.Author.Rules.{rules}
-use Rattle.laws.proofs.BelowLaws.{all_none, all_more, all_fails, all_done}
-use Rattle.laws.proofs.Tests.{held, failed}
+use mathlib.Core.Path.{◌≡◌}
 use Rattle.laws.specs.Below.{all_below}
-use Rattle.graph_checks.specs.Checks.{starts_inside, all_start_inside}
+use Rattle.graph_checks.specs.Checks.{starts_inside}
 use Rattle.graph_checks.proofs.checks.all_start_inside.Given as goal
 
 abbrev pub invariant-loop-i : goal.invariant-loop-i

@@ -8,7 +8,6 @@ use mathlib.Core.Bool.{true, not}
 use Prim.Native.Nat.{◌<◌}
 use mathlib.Core.Path.{◌≡◌, refl, sym, ap, ◌∙◌}
 use native.Mathlib.Omega.{arith}
-use borrow.Author.Rules.{rules}
 use Rattle.graph_checks.proofs.checks.assigned_check.Goals as goal
 use Rattle.graph_checks.proofs.checks.assigned_check.Goals.{Else-not-has_kind, Else-too_long, Else-variable_count-v}
 

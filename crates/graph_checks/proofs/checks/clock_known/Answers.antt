@@ -1,7 +1,6 @@
 use Prim.Native.Nat.{ℕ}
 use mathlib.Core.Path.{ap}
 use lib.Dec.{ltb}
-use borrow.Author.Rules.{rules}
 use Rattle.graph_tables.specs.Handed.{handed_clock}
 use Rattle.graph_checks.specs.Checks.{clock_known}
 use Rattle.graph_checks.proofs.checks.clock_known.Goals as goal

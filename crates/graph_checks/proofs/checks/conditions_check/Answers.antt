@@ -1,7 +1,5 @@
 use mathlib.Core.Path.{sym, ◌∙◌}
-use borrow.Author.Rules.{rules}
 use Rattle.graph_checks.proofs.CheckLaws.{then_on, then_stops}
-use Prim.Native.Nat.{◌-◌}
 use Rattle.graph_checks.specs.Checks.{conditions_check}
 use Rattle.graph_checks.proofs.checks.conditions_check.Goals as goal
 

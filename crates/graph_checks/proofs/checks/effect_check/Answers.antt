@@ -8,7 +8,6 @@ use Rattle.graph_checks.specs.Checks.{effect_check}
 use Rattle.graph_checks.proofs.CheckLaws.{other, that}
 use mathlib.Core.Bool.{true}
 use mathlib.Core.Path.{◌≡◌}
-use borrow.Author.Rules.{rules}
 use Rattle.graph_checks.proofs.checks.effect_check.Goals as goal
 use Rattle.graph_checks.proofs.checks.effect_check.Goals.{Else-not-well_formed}
 

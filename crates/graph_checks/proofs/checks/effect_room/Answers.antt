@@ -10,7 +10,6 @@ use mathlib.Core.Bool.{true, not}
 use Prim.Native.Nat.{◌<◌}
 use mathlib.Core.Path.{◌≡◌, refl, sym, ap, ◌∙◌}
 use native.Mathlib.Omega.{arith}
-use borrow.Author.Rules.{rules}
 use Rattle.graph_checks.proofs.checks.effect_room.Goals as goal
 use Rattle.graph_checks.proofs.checks.effect_room.Goals.{After-all_draws, Else-n-ge-EFFECTS, Else-too_deep}
 

@@ -2,7 +2,6 @@ use mathlib.Core.Path.{refl}
 use borrow.Author.Tests.{lt-ltb, le-ltb}
 use Rattle.laws.proofs.Ladder.{passed, stopped}
 use Rattle.laws.proofs.Tests.{held, failed}
-use Prim.Native.Nat.{◌-◌}
 use Rattle.graph_checks.specs.Checks.{refused_by, ends_check}
 use Rattle.graph_checks.proofs.checks.ends_check.Goals as goal
 

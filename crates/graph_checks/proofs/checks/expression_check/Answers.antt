@@ -4,7 +4,6 @@ use Rattle.grammar.specs.Typing.{type_of, kinded, too_long}
 use Rattle.graph_checks.specs.Checks.{refused_by, typed_check}
 use mathlib.Core.Bool.{not}
 use mathlib.Core.Path.{◌≡◌, refl, sym, ap, ◌∙◌}
-use borrow.Author.Rules.{rules}
 use Rattle.graph_checks.proofs.checks.expression_check.Goals as goal
 use Rattle.graph_checks.proofs.checks.expression_check.Goals.{After-has_kind, After-too_long}
 

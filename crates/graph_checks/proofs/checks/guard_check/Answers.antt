@@ -8,10 +8,8 @@ use Rattle.grammar.specs.Draws.{draws_of}
 use Rattle.grammar.specs.Typing.{type_of, kinded_as, too_deep, too_long}
 use Rattle.graph_tables.specs.Words.{kinds_of}
 use mathlib.Core.Path.{◌≡◌, refl, sym, ap, ◌∙◌}
-use borrow.Author.Rules.{rules}
 use Rattle.laws.proofs.Ladder.{passed, stopped}
 use Rattle.laws.proofs.Tests.{held, failed}
-use Prim.Native.Nat.{◌-◌}
 use native.Mathlib.Omega.{arith}
 use Rattle.graph_checks.specs.Checks.{refused_by, guard_check}
 use Rattle.graph_checks.proofs.checks.guard_check.Goals as goal

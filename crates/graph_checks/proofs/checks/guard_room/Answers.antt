@@ -1,9 +1,7 @@
 use mathlib.Core.Path.{refl, sym, ◌∙◌}
-use borrow.Author.Rules.{rules}
 use borrow.Author.Tests.{lt-ltb, le-ltb}
 use Rattle.laws.proofs.Ladder.{passed, stopped}
 use Rattle.graph_checks.proofs.CheckLaws.{then_on, then_stops}
-use Prim.Native.Nat.{◌-◌}
 use Rattle.graph_checks.specs.Checks.{refused_by, guard_room}
 use Rattle.graph_checks.proofs.checks.guard_room.Goals as goal
 

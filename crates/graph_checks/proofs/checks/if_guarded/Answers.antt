@@ -1,5 +1,3 @@
-use borrow.Author.Rules.{rules}
-use Prim.Native.Nat.{◌-◌}
 use Rattle.graph_checks.proofs.checks.if_guarded.Goals as goal
 
 pub returns-then-guarded : goal.returns-then-guarded

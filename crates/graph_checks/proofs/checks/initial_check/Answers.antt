@@ -1,12 +1,10 @@
 use Rattle.graph_checks.proofs.ReadyParts.{limits_ready}
 use mathlib.Core.Path.{sym, ◌∙◌}
-use borrow.Author.Rules.{rules}
 use Rattle.laws.proofs.Ladder.{passed, stopped}
 use Rattle.laws.proofs.Tests.{held, failed}
 use Rattle.graph_checks.proofs.CheckLaws.{then_on, then_stops}
 use mathlib.Core.Bool.{true}
 use Rattle.graph_tables.proofs.SoundLaws.{sound}
-use Prim.Native.Nat.{◌-◌}
 use Rattle.graph_checks.specs.Checks.{refused_by, initial_check}
 use Rattle.graph_checks.proofs.checks.initial_check.Goals as goal
 

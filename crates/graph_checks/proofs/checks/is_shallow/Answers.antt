@@ -1,6 +1,5 @@
 use mathlib.Core.Bool.{not}
 use mathlib.Core.Path.{ap, ◌∙◌}
-use borrow.Author.Rules.{rules}
 use Rattle.grammar.specs.Typing.{too_deep}
 use Rattle.graph_checks.proofs.checks.is_shallow.Goals as goal
 

@@ -4,7 +4,6 @@ use Rattle.graph_checks.specs.Checks.{assigned_check, known_effect_check}
 use Rattle.graph_checks.proofs.CheckLaws.{then_on, then_stops}
 use Rattle.graph_checks.proofs.ReadyActions.{assigned_short}
 use mathlib.Core.Path.{◌≡◌, sym, ◌∙◌}
-use borrow.Author.Rules.{rules}
 use Rattle.graph_checks.proofs.checks.known_effect_check.Goals as goal
 use Rattle.graph_checks.proofs.checks.known_effect_check.Goals.{After-assigned_check-assigned}
 

@@ -1,10 +1,6 @@
-use Rattle.graph_tables.specs.Words.{kinds_of}
-use Rattle.graph_edits.specs.Edits.{chosen}
-use Rattle.graph_tables.specs.declared.answers.Done.TheVariants.{Accepted}
-use Rattle.graph_checks.specs.Checks.{each_below, expression_check}
+use Rattle.graph_checks.specs.Checks.{expression_check}
 use Rattle.graph_checks.proofs.CheckLaws.{each_none, each_more, each_stops, each_done}
-use Prim.Native.Nat.{◌-◌, ◌≤◌}
-use mathlib.Core.Path.{◌≡◌, sym, ◌∙◌}
+use mathlib.Core.Path.{sym, ◌∙◌}
 use native.Mathlib.Omega.{arith}
 use borrow.Author.Rules.{rules}
 use Rattle.graph_checks.proofs.checks.message_check.Goals as goal

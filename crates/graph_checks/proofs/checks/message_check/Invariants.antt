@@ -2,11 +2,8 @@ use Rattle.graph_tables.specs.Words.{kinds_of}
 use Rattle.graph_edits.specs.Edits.{chosen}
 use Rattle.graph_tables.specs.declared.answers.Done.TheVariants.{Accepted}
 use Rattle.graph_checks.specs.Checks.{each_below, expression_check}
-use Rattle.graph_checks.proofs.CheckLaws.{each_none, each_more, each_stops, each_done}
 use Prim.Native.Nat.{◌-◌, ◌≤◌}
-use mathlib.Core.Path.{◌≡◌, sym, ◌∙◌}
-use native.Mathlib.Omega.{arith}
-use borrow.Author.Rules.{rules}
+use mathlib.Core.Path.{◌≡◌}
 use Rattle.graph_checks.proofs.checks.message_check.Given as goal
 
 abbrev pub invariant-loop-i : goal.invariant-loop-i

@@ -4,7 +4,7 @@ use Rattle.grammar.proofs.DrawLaws.{draws_few}
 use Rattle.graph_edits.specs.Edits.{chosen}
 use Rattle.graph_checks.specs.Checks.{message_draws}
 use lib.ListN.{length}
-use Prim.Native.Nat.{ℕ, ◌-◌, ◌*◌, ◌≤◌}
+use Prim.Native.Nat.{ℕ, ◌≤◌}
 use mathlib.Core.Path.{◌≡◌, sym, ap, ◌∙◌}
 use native.Mathlib.Omega.{arith}
 use borrow.Author.Rules.{rules}

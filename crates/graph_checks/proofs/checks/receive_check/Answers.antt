@@ -8,7 +8,6 @@ use Rattle.graph_tables.specs.declared.answers.Done.TheVariants.{Refused}
 use Rattle.graph_checks.specs.Checks.{receive_check}
 use mathlib.Core.Bool.{true}
 use mathlib.Core.Path.{◌≡◌, refl}
-use borrow.Author.Rules.{rules}
 use Rattle.graph_checks.proofs.checks.receive_check.Goals as goal
 use Rattle.graph_checks.proofs.checks.receive_check.Goals.{Else-not-well_formed}
 

@@ -1,10 +1,8 @@
-use borrow.Author.Rules.{rules}
 use borrow.Author.Tests.{lt-ltb, le-ltb}
 use Rattle.laws.proofs.Ladder.{passed, stopped}
 use Rattle.laws.proofs.Tests.{held, failed}
 use mathlib.Core.Bool.{true}
 use Rattle.graph_tables.proofs.SoundLaws.{sound}
-use Prim.Native.Nat.{◌-◌}
 use Rattle.graph_checks.proofs.CheckLaws.{other, that}
 use Rattle.graph_checks.specs.Checks.{refused_by, reset_check}
 use Rattle.graph_checks.proofs.checks.reset_check.Goals as goal

@@ -1,10 +1,8 @@
 use Rattle.graph_checks.proofs.ReadyActions.{plain_ready}
 use mathlib.Core.Path.{refl, sym, ◌∙◌}
-use borrow.Author.Rules.{rules}
 use borrow.Author.Tests.{lt-ltb, le-ltb}
 use Rattle.laws.proofs.Ladder.{passed, stopped}
 use Rattle.graph_checks.proofs.CheckLaws.{then_on, then_stops}
-use Prim.Native.Nat.{◌-◌}
 use native.Mathlib.Omega.{arith}
 use Rattle.graph_checks.specs.Checks.{refused_by, room_for_reset}
 use Rattle.graph_checks.proofs.checks.reset_room.Goals as goal

@@ -12,7 +12,6 @@ use Rattle.graph_checks.proofs.CheckLaws.{then_on, then_stops}
 use Rattle.graph_checks.proofs.ReadyActions.{message_short}
 use mathlib.Core.Bool.{true}
 use mathlib.Core.Path.{◌≡◌, sym, ◌∙◌}
-use borrow.Author.Rules.{rules}
 use Rattle.graph_checks.proofs.checks.send_check.Goals as goal
 use Rattle.graph_checks.proofs.checks.send_check.Goals.{After-message_check-message, Else-not-well_formed}
 

@@ -11,7 +11,6 @@ use Rattle.graph_checks.specs.Checks.{shallow, message_draws, send_room}
 use mathlib.Core.Bool.{true}
 use Prim.Native.Nat.{◌≤◌}
 use mathlib.Core.Path.{◌≡◌, refl}
-use borrow.Author.Rules.{rules}
 use Rattle.graph_checks.proofs.checks.send_room.Goals as goal
 use Rattle.graph_checks.proofs.checks.send_room.Goals.{Else-message_draws-gt-DRAWS, Else-not-all_shallow}
 

@@ -1,9 +1,7 @@
 use mathlib.Core.Path.{refl}
-use borrow.Author.Rules.{rules}
 use borrow.Author.Tests.{lt-ltb, le-ltb}
 use Rattle.laws.proofs.Ladder.{passed, stopped}
 use Rattle.laws.proofs.Tests.{held, failed}
-use Prim.Native.Nat.{◌-◌}
 use Rattle.graph_checks.specs.Checks.{refused_by, start_check}
 use Rattle.graph_checks.proofs.checks.start_check.Goals as goal
 

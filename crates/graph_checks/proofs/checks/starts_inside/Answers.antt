@@ -1,4 +1,3 @@
-use borrow.Author.Rules.{rules}
 use Rattle.graph_checks.specs.Checks.{starts_inside}
 use Rattle.graph_checks.proofs.checks.starts_inside.Goals as goal
 

@@ -1,11 +1,9 @@
 use mathlib.Core.Path.{sym, ◌∙◌}
-use borrow.Author.Rules.{rules}
 use Rattle.laws.proofs.Ladder.{passed, stopped}
 use Rattle.laws.proofs.Tests.{held, failed}
 use Rattle.graph_checks.proofs.CheckLaws.{then_on, then_stops}
 use mathlib.Core.Bool.{true}
 use Rattle.graph_tables.proofs.SoundLaws.{sound}
-use Prim.Native.Nat.{◌-◌}
 use Rattle.graph_checks.specs.Checks.{refused_by, transition_check}
 use Rattle.graph_checks.proofs.checks.transition_check.Goals as goal
 

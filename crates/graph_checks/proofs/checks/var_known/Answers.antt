@@ -1,5 +1,4 @@
 use Rattle.graph_checks.specs.Checks.{var_known}
-use borrow.Author.Rules.{rules}
 use Rattle.graph_checks.proofs.checks.var_known.Goals as goal
 
 pub returns : goal.returns

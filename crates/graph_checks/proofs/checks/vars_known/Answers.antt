@@ -1,10 +1,6 @@
-use Rattle.laws.specs.Below.{all_below}
 use Rattle.laws.proofs.BelowLaws.{all_none, all_more, all_fails, all_done}
 use Rattle.laws.proofs.Tests.{held, failed}
-use Rattle.graph_checks.specs.Checks.{var_known}
-use mathlib.Core.Bool.{true}
-use Prim.Native.Nat.{◌-◌, ◌≤◌}
-use mathlib.Core.Path.{◌≡◌, sym}
+use mathlib.Core.Path.{sym}
 use native.Mathlib.Omega.{arith}
 use borrow.Author.Rules.{rules}
 use Rattle.graph_checks.proofs.checks.vars_known.Goals as goal

@@ -1,8 +1,6 @@
 use borrow.Author.Tests.{eq-eqb, ne_eqb}
 use Rattle.laws.proofs.BelowLaws.{and_yes, and_no}
 use Rattle.graph_tables.specs.Formed.{action_formed}
-use Prim.Native.Nat.{◌-◌}
-use borrow.Author.Rules.{rules}
 use Rattle.graph_tables.proofs.formed.action_formed.Goals as goal
 
 pub returns-then-kind-eq-PLAIN : goal.returns-then-kind-eq-PLAIN

@@ -1,12 +1,8 @@
 use Prim.Native.Nat.{◌-◌, ◌≤◌}
 use mathlib.Core.Path.{◌≡◌}
 use mathlib.Core.Bool.{true}
-use native.Mathlib.Omega.{arith}
-use borrow.Author.Rules.{rules}
 use Rattle.laws.specs.Below.{all_below}
-use Rattle.laws.proofs.BelowLaws.{all_none}
 use Rattle.graph_tables.specs.Formed.{target_formed}
-use Rattle.graph_tables.proofs.FormedLaws.{turn_fails, turn_holds, turns_end}
 use Rattle.graph_tables.proofs.formed.all_targets_formed.Given as goal
 
 abbrev pub invariant-loop-i : goal.invariant-loop-i

@@ -1,6 +1,5 @@
 use borrow.Author.Tests.{eq-eqb, ne_eqb}
 use Rattle.graph_tables.specs.Formed.{bound_formed}
-use Prim.Native.Nat.{◌-◌}
 use Rattle.graph_tables.proofs.formed.bound_formed.Goals as goal
 
 pub returns-then-w-eq-UNBOUNDED : goal.returns-then-w-eq-UNBOUNDED

@@ -2,7 +2,6 @@ use Rattle.graph_tables.specs.Formed.{clock_before}
 use Prim.Native.Nat.{suc, ◌-◌}
 use mathlib.Core.Path.{◌≡◌, sym, ap, ◌∙◌}
 use native.Mathlib.Omega.{arith}
-use borrow.Author.Rules.{rules}
 use Rattle.graph_tables.proofs.formed.clock_before.Goals as goal
 
 pub returns : goal.returns

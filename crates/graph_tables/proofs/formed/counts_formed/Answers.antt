@@ -3,9 +3,8 @@ use Rattle.laws.proofs.BelowLaws.{and_yes, and_no}
 use Rattle.graph_tables.specs.Sizes.{transition_room}
 use Rattle.graph_tables.specs.Formed.{counts_formed}
 use lib.Dec.{leb}
-use Prim.Native.Nat.{ℕ, ◌-◌}
+use Prim.Native.Nat.{ℕ}
 use mathlib.Core.Path.{ap}
-use borrow.Author.Rules.{rules}
 use Rattle.graph_tables.proofs.formed.counts_formed.Goals as goal
 
 pub returns-then-variable_count-gt-VARIABLES : goal.returns-then-variable_count-gt-VARIABLES

@@ -1,11 +1,7 @@
-use Prim.Native.Nat.{ℕ, ◌+◌}
-use mathlib.Core.Path.{◌≡◌, sym, ap, ◌∙◌}
+use mathlib.Core.Path.{◌≡◌, ◌∙◌}
 use native.Mathlib.Omega.{arith}
-use borrow.Author.Rules.{rules}
 use Rattle.laws.proofs.Tests.{held, failed}
 use Rattle.graph_tables.specs.Formed.{effect_formed}
-use Rattle.graph_tables.specs.Words.{kind_at}
-use Rattle.grammar.specs.Inner.{is_of, draws_told}
 use Rattle.graph_tables.proofs.FormedLaws.{draws_not, draws_told_lem, effect_known, effect_unknown, effect_told}
 use Rattle.graph_tables.proofs.formed.effect_draws.Goals as goal
 use Rattle.graph_tables.proofs.formed.effect_draws.Goals.{After-is_of}

@@ -1,8 +1,5 @@
-use Prim.Native.Nat.{◌-◌}
 use native.Mathlib.Omega.{arith}
-use borrow.Author.Rules.{rules}
-use Rattle.graph_tables.specs.Formed.{effect_formed, effect_draws}
-use Rattle.graph_tables.proofs.FormedLaws.{Sums, sums_none, sums_fail, sums_more, sums_end, effect_few}
+use Rattle.graph_tables.proofs.FormedLaws.{sums_none, sums_fail, sums_more, sums_end, effect_few}
 use Rattle.graph_tables.proofs.formed.effects_formed.Goals as goal
 
 pub effect_draws-draws-requires : goal.effect_draws-draws-requires

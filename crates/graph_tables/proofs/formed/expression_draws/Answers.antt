@@ -1,5 +1,4 @@
 use mathlib.Core.Path.{◌≡◌, ◌∙◌}
-use borrow.Author.Rules.{rules}
 use Rattle.laws.proofs.Tests.{held, failed}
 use Rattle.graph_tables.specs.Formed.{expression_formed}
 use Rattle.graph_tables.proofs.FormedLaws.{draws_not, draws_told_lem, expression_known, expression_told}

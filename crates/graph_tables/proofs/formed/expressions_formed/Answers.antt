@@ -1,8 +1,5 @@
-use Prim.Native.Nat.{◌-◌}
 use native.Mathlib.Omega.{arith}
-use borrow.Author.Rules.{rules}
-use Rattle.graph_tables.specs.Formed.{expression_formed, effect_draws}
-use Rattle.graph_tables.proofs.FormedLaws.{Sums, sums_none, sums_fail, sums_more, sums_end, expression_few}
+use Rattle.graph_tables.proofs.FormedLaws.{sums_none, sums_fail, sums_more, sums_end, expression_few}
 use Rattle.graph_tables.proofs.formed.expressions_formed.Goals as goal
 
 pub expression_draws-draws-requires : goal.expression_draws-draws-requires

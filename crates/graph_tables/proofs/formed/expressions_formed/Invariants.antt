@@ -1,8 +1,6 @@
 use Prim.Native.Nat.{◌-◌}
-use native.Mathlib.Omega.{arith}
-use borrow.Author.Rules.{rules}
 use Rattle.graph_tables.specs.Formed.{expression_formed, effect_draws}
-use Rattle.graph_tables.proofs.FormedLaws.{Sums, sums_none, sums_fail, sums_more, sums_end, expression_few}
+use Rattle.graph_tables.proofs.FormedLaws.{Sums}
 use Rattle.graph_tables.proofs.formed.expressions_formed.Given as goal
 
 abbrev pub invariant-loop-e : goal.invariant-loop-e

@@ -1,6 +1,5 @@
 use mathlib.Core.Path.{◌∙◌}
 use native.Mathlib.Omega.{arith}
-use borrow.Author.Rules.{rules}
 use Rattle.graph_tables.specs.Layout.{guard_slot}
 use Rattle.graph_tables.specs.Words.{guard_length}
 use Rattle.graph_tables.specs.Formed.{guard_formed}

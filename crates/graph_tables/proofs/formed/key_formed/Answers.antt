@@ -1,8 +1,6 @@
 use borrow.Author.Tests.{lt-ltb, le-ltb}
 use Rattle.laws.proofs.BelowLaws.{and_yes, and_no}
 use Rattle.graph_tables.specs.Formed.{key_formed}
-use Prim.Native.Nat.{◌-◌}
-use borrow.Author.Rules.{rules}
 use Rattle.graph_tables.proofs.formed.key_formed.Goals as goal
 
 pub returns-then-n-pre_of : goal.returns-then-n-pre_of

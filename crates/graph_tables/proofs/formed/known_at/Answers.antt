@@ -1,8 +1,5 @@
-use Prim.Native.Nat.{◌≤◌}
-use mathlib.Core.Path.{◌∙◌}
 use native.Mathlib.Omega.{arith}
 use borrow.Author.Tests.{le-leb, lt-leb}
-use borrow.Author.Rules.{rules}
 use Rattle.graph_tables.specs.Inner.{known_at}
 use Rattle.graph_tables.proofs.formed.known_at.Goals as goal
 

@@ -1,5 +1,4 @@
 use native.Mathlib.Omega.{arith}
-use borrow.Author.Rules.{rules}
 use Rattle.graph_tables.proofs.formed.known_effect.Goals as goal
 
 pub known_at-requires : goal.known_at-requires

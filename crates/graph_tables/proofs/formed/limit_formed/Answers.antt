@@ -2,8 +2,6 @@ use borrow.Author.Tests.{lt-ltb, le-ltb}
 use Rattle.laws.proofs.BelowLaws.{and_yes, and_no}
 use Rattle.laws.proofs.Tests.{held, failed}
 use Rattle.graph_tables.specs.Formed.{limit_formed}
-use Prim.Native.Nat.{◌-◌}
-use borrow.Author.Rules.{rules}
 use Rattle.graph_tables.proofs.formed.limit_formed.Goals as goal
 
 pub returns-then-clock_count-clock : goal.returns-then-clock_count-clock

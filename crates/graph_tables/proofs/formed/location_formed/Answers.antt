@@ -1,5 +1,4 @@
 use mathlib.Core.Path.{◌∙◌}
-use borrow.Author.Rules.{rules}
 use Rattle.graph_tables.specs.Formed.{location_formed}
 use Rattle.graph_tables.proofs.FormedLaws.{no_limits_lem}
 use Rattle.graph_tables.proofs.formed.location_formed.Goals as goal

@@ -1,9 +1,7 @@
 use Rattle.laws.proofs.BelowLaws.{and_yes, and_no}
 use Rattle.laws.proofs.Tests.{held, failed}
 use Rattle.graph_tables.specs.Formed.{parts_formed}
-use Prim.Native.Nat.{◌-◌}
 use native.Mathlib.Omega.{arith}
-use borrow.Author.Rules.{rules}
 use Rattle.graph_tables.proofs.FormedLaws.{kinds_fit}
 use Rattle.graph_tables.proofs.formed.parts_formed.Goals as goal
 

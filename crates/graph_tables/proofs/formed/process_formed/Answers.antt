@@ -3,9 +3,8 @@ use borrow.Author.Tests.{lt-ltb, le-ltb}
 use Rattle.laws.proofs.BelowLaws.{and_yes, and_no}
 use Rattle.graph_tables.specs.Formed.{process_formed}
 use Rattle.graph_tables.proofs.FormedLaws.{few_limits, limits_fit, location_limits}
-use Prim.Native.Nat.{◌+◌, ◌-◌, ◌<◌}
+use Prim.Native.Nat.{◌<◌}
 use native.Mathlib.Omega.{arith}
-use borrow.Author.Rules.{rules}
 use Rattle.graph_tables.proofs.formed.process_formed.Goals as goal
 
 pub returns-then-location_count-l : goal.returns-then-location_count-l

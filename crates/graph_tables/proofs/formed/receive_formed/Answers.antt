@@ -1,8 +1,6 @@
 use borrow.Author.Tests.{eq-eqb, ne_eqb, le-leb, lt-leb}
 use Rattle.laws.proofs.BelowLaws.{and_yes, and_no}
 use Rattle.graph_tables.specs.Formed.{receive_formed}
-use Prim.Native.Nat.{◌-◌}
-use borrow.Author.Rules.{rules}
 use Rattle.graph_tables.proofs.formed.receive_formed.Goals as goal
 
 pub returns-then-reset_count-ne0 : goal.returns-then-reset_count-ne0

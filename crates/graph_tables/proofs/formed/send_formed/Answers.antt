@@ -1,6 +1,4 @@
 use borrow.Author.Tests.{eq-eqb, ne_eqb, le-leb, lt-leb}
-use native.Mathlib.Omega.{arith}
-use borrow.Author.Rules.{rules}
 use Rattle.laws.proofs.BelowLaws.{and_yes, and_no}
 use Rattle.graph_tables.specs.Formed.{send_formed}
 use Rattle.graph_tables.proofs.formed.send_formed.Goals as goal

@@ -1,6 +1,4 @@
 use Rattle.graph_tables.specs.Formed.{started_of}
-use Prim.Native.Nat.{◌-◌}
-use borrow.Author.Rules.{rules}
 use Rattle.graph_tables.proofs.formed.started.Goals as goal
 
 pub returns-then-building : goal.returns-then-building

@@ -1,6 +1,4 @@
 use Rattle.graph_tables.specs.Formed.{target_formed}
-use Prim.Native.Nat.{◌-◌}
-use borrow.Author.Rules.{rules}
 use Rattle.graph_tables.proofs.formed.target_formed.Goals as goal
 
 pub returns : goal.returns

@@ -3,8 +3,6 @@ use Rattle.laws.proofs.BelowLaws.{and_yes, and_no}
 use Rattle.laws.proofs.Tests.{held, failed}
 use Rattle.graph_tables.specs.Formed.{transition_formed}
 use Rattle.graph_tables.proofs.FormedLaws.{no_limits_lem}
-use Prim.Native.Nat.{◌-◌}
-use borrow.Author.Rules.{rules}
 use Rattle.graph_tables.proofs.formed.transition_formed.Goals as goal
 
 pub returns-then-not-key_formed : goal.returns-then-not-key_formed

@@ -1,6 +1,4 @@
 use borrow.Author.Tests.{eq-eqb, ne_eqb}
-use Prim.Native.Nat.{◌-◌}
-use borrow.Author.Rules.{rules}
 use Rattle.graph_tables.proofs.inner.bound_of.Goals as goal
 
 pub returns-then-kind-eq-INCLUDED : goal.returns-then-kind-eq-INCLUDED

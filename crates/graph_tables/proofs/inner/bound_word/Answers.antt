@@ -1,4 +1,3 @@
-use borrow.Author.Rules.{rules}
 use Rattle.graph_tables.proofs.inner.bound_word.Goals as goal
 
 pub returns-in-Included : goal.returns-in-Included

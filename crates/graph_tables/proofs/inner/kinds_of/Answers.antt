@@ -1,8 +1,7 @@
 use lib.ListN.{take, drop}
-use Prim.Native.Nat.{ℕ, ◌+◌, ◌-◌}
+use Prim.Native.Nat.{ℕ, ◌-◌}
 use mathlib.Core.Path.{◌≡◌, ap, ◌∙◌}
 use native.Mathlib.Omega.{arith}
-use borrow.Author.Rules.{rules}
 use Rattle.graph_tables.specs.Layout.{kinds_start, kind_cell}
 use Rattle.graph_tables.proofs.inner.kinds_of.Goals as goal
 

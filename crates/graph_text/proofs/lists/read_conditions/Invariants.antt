@@ -1,5 +1,4 @@
 use Prim.Native.Nat.{◌-◌, ◌≤◌}
-use borrow.Author.Rules.{rules}
 use Rattle.graph_text.proofs.lists.read_conditions.Given as goal
 
 abbrev pub invariant-loop-count : goal.invariant-loop-count

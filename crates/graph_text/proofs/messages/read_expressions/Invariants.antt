@@ -1,8 +1,6 @@
 use Prim.Native.Nat.{◌-◌, ◌≤◌}
 use mathlib.Core.Path.{◌≡◌}
-use native.Mathlib.Omega.{arith}
-use lib.ListN.{length, length-set}
-use borrow.Author.Rules.{rules}
+use lib.ListN.{length}
 use Rattle.graph_text.proofs.messages.read_expressions.Given as goal
 
 abbrev pub invariant-loop-k : goal.invariant-loop-k

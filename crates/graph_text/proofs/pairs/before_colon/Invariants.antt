@@ -1,7 +1,5 @@
 use Prim.Native.Nat.{◌-◌, ◌≤◌}
-use mathlib.Core.Path.{◌≡◌}
 use lib.ListN.{length}
-use borrow.Author.Rules.{rules}
 use Rattle.graph_text.proofs.pairs.before_colon.Given as goal
 
 abbrev pub invariant-loop-at : goal.invariant-loop-at

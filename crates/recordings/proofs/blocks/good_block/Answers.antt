@@ -12,64 +12,38 @@ returns-then-b-ne-BLOCK c = and_no _ (ne_eqb _ _ c.if-b-ne-BLOCK.true)
 pub returns-then-number-place : goal.returns-then-number-place
 unfolding good_block
 returns-then-number-place c =
-    let n = c.before in
-    and_yes (eq-eqb _ _ n.if-b-ne-BLOCK.false) (and_no _ (ne_eqb _ _ (rw n.number.ensures.0 at c.if-number-place.true)))
+    and_yes (eq-eqb _ _ c.if-b-ne-BLOCK.false) (and_no _ (ne_eqb _ _ (rw c.number.ensures.0 at c.if-number-place.true)))
 
 pub returns-then-not-good_count : goal.returns-then-not-good_count
 unfolding good_block
 returns-then-not-good_count c =
-    let g = c.before in
-    let f = g.before.before in
-    let n = f.before in
-    and_yes (eq-eqb _ _ n.if-b-ne-BLOCK.false)
-    (and_yes (eq-eqb _ _ (sym n.number.ensures.0 ∙ f.if-number-place.false))
-    (and_no _ (failed g.good_count.ensures c.if-not-good_count.true-raw)))
+    and_yes (eq-eqb _ _ c.if-b-ne-BLOCK.false)
+    (and_yes (eq-eqb _ _ (sym c.number.ensures.0 ∙ c.if-number-place.false))
+    (and_no _ (failed c.good_count.ensures c.if-not-good_count.true-raw)))
 
 pub returns-then-not-zeros : goal.returns-then-not-zeros
 unfolding good_block
 returns-then-not-zeros c =
-    let z = c.before in
-    let h = z.before in
-    let g = h.before in
-    let f = g.before.before in
-    let n = f.before in
-    and_yes (eq-eqb _ _ n.if-b-ne-BLOCK.false)
-    (and_yes (eq-eqb _ _ (sym n.number.ensures.0 ∙ f.if-number-place.false))
-    (and_yes (held g.good_count.ensures h.if-not-good_count.false-raw)
-    (and_no _ (failed z.zeros.ensures c.if-not-zeros.true-raw))))
+    and_yes (eq-eqb _ _ c.if-b-ne-BLOCK.false)
+    (and_yes (eq-eqb _ _ (sym c.number.ensures.0 ∙ c.if-number-place.false))
+    (and_yes (held c.good_count.ensures c.if-not-good_count.false-raw)
+    (and_no _ (failed c.zeros.ensures c.if-not-zeros.true-raw))))
 
 pub returns-then-number-sum : goal.returns-then-number-sum
 unfolding good_block
 returns-then-number-sum c =
-    let s = c.before in
-    let m = s.before in
-    let k = m.before in
-    let z = k.before in
-    let h = z.before in
-    let g = h.before in
-    let f = g.before.before in
-    let n = f.before in
-    and_yes (eq-eqb _ _ n.if-b-ne-BLOCK.false)
-    (and_yes (eq-eqb _ _ (sym n.number.ensures.0 ∙ f.if-number-place.false))
-    (and_yes (held g.good_count.ensures h.if-not-good_count.false-raw)
-    (and_yes (held z.zeros.ensures k.if-not-zeros.false-raw)
-    (and_no _ (ne_eqb _ _ (rw (m.number-2.ensures.0, s.sum.ensures) at c.if-number-sum.true))))))
+    and_yes (eq-eqb _ _ c.if-b-ne-BLOCK.false)
+    (and_yes (eq-eqb _ _ (sym c.number.ensures.0 ∙ c.if-number-place.false))
+    (and_yes (held c.good_count.ensures c.if-not-good_count.false-raw)
+    (and_yes (held c.zeros.ensures c.if-not-zeros.false-raw)
+    (and_no _ (ne_eqb _ _ (rw (c.number-2.ensures.0, c.sum.ensures) at c.if-number-sum.true))))))
 
 pub returns : goal.returns
 unfolding good_block
 returns c =
-    let j = c.before in
-    let s = j.before in
-    let m = s.before in
-    let k = m.before in
-    let z = k.before in
-    let h = z.before in
-    let g = h.before in
-    let f = g.before.before in
-    let n = f.before in
-    and_yes (eq-eqb _ _ n.if-b-ne-BLOCK.false)
-    (and_yes (eq-eqb _ _ (sym n.number.ensures.0 ∙ f.if-number-place.false))
-    (and_yes (held g.good_count.ensures h.if-not-good_count.false-raw)
-    (and_yes (held z.zeros.ensures k.if-not-zeros.false-raw)
-    (and_yes (eq-eqb _ _ (sym m.number-2.ensures.0 ∙ (j.if-number-sum.false ∙ s.sum.ensures)))
+    and_yes (eq-eqb _ _ c.if-b-ne-BLOCK.false)
+    (and_yes (eq-eqb _ _ (sym c.number.ensures.0 ∙ c.if-number-place.false))
+    (and_yes (held c.good_count.ensures c.if-not-good_count.false-raw)
+    (and_yes (held c.zeros.ensures c.if-not-zeros.false-raw)
+    (and_yes (eq-eqb _ _ (sym c.number-2.ensures.0 ∙ (c.if-number-sum.false ∙ c.sum.ensures)))
     c.good_slots.ensures))))

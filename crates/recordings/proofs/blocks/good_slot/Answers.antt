@@ -8,11 +8,9 @@ use Rattle.recordings.proofs.blocks.good_slot.Goals as goal
 pub returns-then-i-b : goal.returns-then-i-b
 unfolding good_slot
 returns-then-i-b c =
-    let r = c.before.before.before in
-    rw (lt-ltb _ _ c.if-i-b.true) (c.good_record.ensures ∙ ap good_record r.record_at-r.ensures.0)
+    rw (lt-ltb _ _ c.if-i-b.true) (c.good_record.ensures ∙ ap good_record c.record_at-r.ensures.0)
 
 pub returns : goal.returns
 unfolding good_slot
 returns c =
-    let r = c.before.before.before in
-    rw (le-ltb _ _ c.if-i-b.false) (c.zeros.ensures ∙ ap (λ x. zeros_at x 0 32) r.record_at-r.ensures.0)
+    rw (le-ltb _ _ c.if-i-b.false) (c.zeros.ensures ∙ ap (λ x. zeros_at x 0 32) c.record_at-r.ensures.0)

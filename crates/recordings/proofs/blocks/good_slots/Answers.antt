@@ -10,14 +10,11 @@ loop-i-init c = (search rules, all_none _)
 
 pub returns-then-not-good_slot : goal.returns-then-not-good_slot
 returns-then-not-good_slot c =
-    let g = c.before in
-    sym (all_fails _ _ g.loop-i.i (omega arith) (failed g.good_slot.ensures c.if-not-good_slot.true-raw))
+    sym (all_fails _ _ c.loop-i.i (omega arith) (failed c.good_slot.ensures c.if-not-good_slot.true-raw))
 
 pub loop-i-preserved : goal.loop-i-preserved
 loop-i-preserved c =
-    let g = c.before in
-    let l = g.before.before in
-    (search rules, all_more _ l.loop-i.i l.loop-i.invariant.1 (held g.good_slot.ensures c.if-not-good_slot.false-raw))
+    (search rules, all_more _ c.loop-i.i c.loop-i.invariant.1 (held c.good_slot.ensures c.if-not-good_slot.false-raw))
 
 pub returns : goal.returns
-returns c = let l = c.before in sym (all_done _ 15 l.loop-i.i (omega arith) (omega arith) l.loop-i.invariant.1)
+returns c = sym (all_done _ 15 c.loop-i.i (omega arith) (omega arith) c.loop-i.invariant.1)

@@ -18,10 +18,6 @@ returns-then-count-gt-RECORDS c =
 pub returns : goal.returns
 unfolding seal_of unless
 returns c =
-    let n = c.before.before in
-    let s = n.before.before in
-    let z = s.before.before.before.before in
-    let h = z.before.before.before.before in
-    let e = eq-eqb _ _ h.if-block-ne-BLOCK.false in
-    let k = le-leb _ _ h.if-count-gt-RECORDS.false in
-    (rw (e, k) refl, rw (e, k) (cc (n.put_number.ensures, s.sum-total.ensures, c.put_zeros.ensures, c.put_head.ensures)))
+    let e = eq-eqb _ _ c.if-block-ne-BLOCK.false in
+    let k = le-leb _ _ c.if-count-gt-RECORDS.false in
+    (rw (e, k) refl, rw (e, k) (cc (c.put_number.ensures, c.sum-total.ensures, c.put_zeros.ensures, c.put_head.ensures)))

@@ -38,6 +38,5 @@ loop-i-preserved c =
 pub returns : goal.returns
 unfolding sum_of
 returns c =
-    let l = c.before in
-    let e : l.loop-i.i ≡ 508 = omega arith in
-    rw e at l.loop-i.invariant.1
+    let e : c.loop-i.i ≡ 508 = omega arith in
+    rw e at c.loop-i.invariant.1

@@ -31,15 +31,11 @@ returns-then-posts-gt-POSTS c =
 pub returns : goal.returns
 unfolding put_of unless record_of
 returns c =
-    let l = c.before.before in
-    let z = l.before.before.before.before in
-    let f = z.before.before.before.before in
-    let s = f.before.before.before.before.before.before.before in
-    let e = eq-eqb _ _ f.if-block-ne-BLOCK.false in
-    let k = lt-ltb _ _ f.if-i-ge-RECORDS.false in
-    let m = le-leb _ _ f.if-posts-gt-POSTS.false in
-    let ps = s.args.posts.now in
+    let e = eq-eqb _ _ c.if-block-ne-BLOCK.false in
+    let k = lt-ltb _ _ c.if-i-ge-RECORDS.false in
+    let m = le-leb _ _ c.if-posts-gt-POSTS.false in
+    let ps = c.args.posts.now in
     let whole =
-    fields_then s.args.block.now (28 + 32 * s.args.i) 1 s.args.graph (length ps) s.args.action (posts_of ps) s.args.word
-    s.args.answer (length_posts ps) in
-    (rw (e, k, m) refl, rw (e, k, m) (cc (l.put_last.ensures, z.put_posts.ensures, f.put_front.ensures, whole)))
+    fields_then c.args.block.now (28 + 32 * c.args.i) 1 c.args.graph (length ps) c.args.action (posts_of ps) c.args.word
+    c.args.answer (length_posts ps) in
+    (rw (e, k, m) refl, rw (e, k, m) (cc (c.put_last.ensures, c.put_posts.ensures, c.put_front.ensures, whole)))

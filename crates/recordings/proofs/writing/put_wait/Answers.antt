@@ -22,13 +22,9 @@ returns-then-i-ge-RECORDS c =
 pub returns : goal.returns
 unfolding put_of unless record_of
 returns c =
-    let l = c.before.before in
-    let z = l.before.before.before.before in
-    let f = z.before.before.before.before in
-    let s = f.before.before.before.before.before in
-    let e = eq-eqb _ _ f.if-block-ne-BLOCK.false in
-    let k = lt-ltb _ _ f.if-i-ge-RECORDS.false in
+    let e = eq-eqb _ _ c.if-block-ne-BLOCK.false in
+    let k = lt-ltb _ _ c.if-i-ge-RECORDS.false in
     let whole =
-    fields_then s.args.block.now (28 + 32 * s.args.i) 2 0 0 s.args.delta (replicate 8 0) 0 s.args.answer
+    fields_then c.args.block.now (28 + 32 * c.args.i) 2 0 0 c.args.delta (replicate 8 0) 0 c.args.answer
     (length-replicate {A = ℕ} 8 0) in
-    (rw (e, k) refl, rw (e, k) (cc (l.put_last.ensures, z.put_zeros.ensures, f.put_front.ensures, whole)))
+    (rw (e, k) refl, rw (e, k) (cc (c.put_last.ensures, c.put_zeros.ensures, c.put_front.ensures, whole)))

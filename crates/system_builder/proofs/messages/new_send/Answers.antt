@@ -1,18 +1,17 @@
 use Prim.Native.Nat.{ℕ}
 use mathlib.Core.Path.{◌≡◌, sym, ◌∙◌}
-use mathlib.Core.List.{List, []}
+use mathlib.Core.List.{List}
 use Rattle.graph_tables.specs.declared.answers.Placed.TheVariants as Placed
 use Rattle.graph_tables.specs.declared.answers.Done.TheVariants as Done
 use Rattle.graph_edits.specs.Edits.{chosen}
-use Rattle.graph_builder.specs.Building.{new_send_of, new_receive_of}
+use Rattle.graph_builder.specs.Building.{new_send_of}
 use Rattle.graph_builder.proofs.BuildingLaws.{parts}
-use Rattle.system_tables.specs.declared.ids.Message.TheVariants.{Send, Receive}
+use Rattle.system_tables.specs.declared.ids.Message.TheVariants.{Send}
 use Rattle.system_tables.specs.declared.ids.Communication.TheVariants.{On}
-use Rattle.system_builder.specs.Messages.{known_check, send_part, receive_part, no_values, new_send_on}
+use Rattle.system_builder.specs.Messages.{known_check, send_part, new_send_on}
 use Rattle.system_builder.proofs.SystemLaws.{only_refused, only_accepted}
-use Rattle.system_builder.proofs.ActionLaws.{send_puts, receive_puts, has_word, telling_of}
+use Rattle.system_builder.proofs.ActionLaws.{send_puts, has_word, telling_of}
 use Rattle.system_builder.proofs.MessageLaws.{known_member, known_both, send_known}
-use borrow.Author.Rules.{rules}
 use Rattle.system_builder.proofs.messages.new_send.Goals as goal
 use Rattle.system_builder.proofs.messages.new_send.Goals.{In_default}
 

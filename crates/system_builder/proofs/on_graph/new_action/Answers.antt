@@ -1,11 +1,9 @@
-use Prim.Native.Nat.{ℕ}
-use mathlib.Core.Path.{◌≡◌, sym, ◌∙◌}
+use mathlib.Core.Path.{sym, ◌∙◌}
 use Rattle.graph_builder.specs.Building.{new_action_of}
 use Rattle.graph_builder.proofs.BuildingLaws.{parts}
 use Rattle.system_tables.specs.declared.ids.Communication.TheVariants.{Plain}
 use Rattle.system_builder.specs.Graphs.{placed_on}
 use Rattle.system_builder.proofs.ActionLaws.{action_puts, checked_word, telling_of}
-use borrow.Author.Rules.{rules}
 use Rattle.system_builder.proofs.on_graph.new_action.Goals as goal
 
 pub tell-requires : goal.tell-requires

@@ -1,5 +1,5 @@
 use Prim.Native.Nat.{ℕ, ◌<◌}
-use mathlib.Core.Path.{◌≡◌, refl, sym, ◌∙◌}
+use mathlib.Core.Path.{refl, sym, ◌∙◌}
 use mathlib.Core.List.{List}
 use Rattle.graph_tables.specs.declared.answers.Placed.TheVariants as Placed
 use Rattle.graph_builder.specs.Building.{new_initial_of}

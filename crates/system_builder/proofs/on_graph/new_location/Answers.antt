@@ -1,7 +1,6 @@
 use mathlib.Core.Path.{ap, ◌∙◌}
 use Rattle.graph_tables.specs.declared.answers.Placed.{Placed}
 use Rattle.graph_builder.specs.Building.{Outcome}
-use borrow.Author.Rules.{rules}
 use Rattle.graph_tables.specs.declared.handed.Limits.{Limits}
 use Rattle.system_builder.specs.Graphs.{new_timed_location_on}
 use Rattle.system_builder.proofs.on_graph.new_location.Goals as goal

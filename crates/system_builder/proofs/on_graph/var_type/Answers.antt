@@ -2,11 +2,8 @@ use Rattle.system_builder.specs.Graphs.{var_type_in}
 use Rattle.graph_builder.specs.Building.{var_type_of}
 use mathlib.Core.List.{List}
 use Rattle.system_builder.proofs.SystemLaws.{known_graph, type_refused, type_accepted}
-use Prim.Native.Nat.{ℕ, zero, suc, ◌+◌, ◌-◌, ◌*◌, ◌/◌, ◌%◌, ◌≤◌, ◌<◌}
-use mathlib.Core.Path.{◌≡◌, refl, sym, ap, ◌∙◌}
-use native.Mathlib.Omega.{arith}
-use lib.ListN.{length, get_or, set, length-set}
-use borrow.Author.Rules.{rules}
+use Prim.Native.Nat.{ℕ}
+use mathlib.Core.Path.{sym, ap, ◌∙◌}
 use Rattle.system_builder.proofs.on_graph.var_type.Goals as goal
 
 pub returns-in-Refused : goal.returns-in-Refused

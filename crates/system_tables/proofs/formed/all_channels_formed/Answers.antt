@@ -10,15 +10,12 @@ loop-q-init c =
 
 pub returns-then-not-channel_formed : goal.returns-then-not-channel_formed
 returns-then-not-channel_formed c =
-    let l = c.before.before.before in
-    turn_fails _ _ l.loop-q.q (omega arith) c.channel_formed.ensures c.if-not-channel_formed.true-raw
+    turn_fails _ _ c.loop-q.q (omega arith) c.channel_formed.ensures c.if-not-channel_formed.true-raw
 
 pub loop-q-preserved : goal.loop-q-preserved
 loop-q-preserved c =
-    let l = c.before.before.before in
-    turn_holds _ _ l.loop-q.q (omega arith) l.loop-q.invariant.1 c.channel_formed.ensures c.if-not-channel_formed.false-raw
+    turn_holds _ _ c.loop-q.q (omega arith) c.loop-q.invariant.1 c.channel_formed.ensures c.if-not-channel_formed.false-raw
 
 pub returns : goal.returns
 returns c =
-    let l = c.before in
-    turns_end _ _ l.loop-q.q (omega arith) (omega arith) l.loop-q.invariant.1
+    turns_end _ _ c.loop-q.q (omega arith) (omega arith) c.loop-q.invariant.1

@@ -10,15 +10,12 @@ loop-e-init c =
 
 pub returns-then-not-channel_kind_formed : goal.returns-then-not-channel_kind_formed
 returns-then-not-channel_kind_formed c =
-    let l = c.before.before.before in
-    turn_fails _ _ l.loop-e.e (omega arith) c.channel_kind_formed.ensures c.if-not-channel_kind_formed.true-raw
+    turn_fails _ _ c.loop-e.e (omega arith) c.channel_kind_formed.ensures c.if-not-channel_kind_formed.true-raw
 
 pub loop-e-preserved : goal.loop-e-preserved
 loop-e-preserved c =
-    let l = c.before.before.before in
-    turn_holds _ _ l.loop-e.e (omega arith) l.loop-e.invariant.1 c.channel_kind_formed.ensures c.if-not-channel_kind_formed.false-raw
+    turn_holds _ _ c.loop-e.e (omega arith) c.loop-e.invariant.1 c.channel_kind_formed.ensures c.if-not-channel_kind_formed.false-raw
 
 pub returns : goal.returns
 returns c =
-    let l = c.before in
-    turns_end _ _ l.loop-e.e (omega arith) (omega arith) l.loop-e.invariant.1
+    turns_end _ _ c.loop-e.e (omega arith) (omega arith) c.loop-e.invariant.1

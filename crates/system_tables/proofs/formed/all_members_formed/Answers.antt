@@ -15,15 +15,12 @@ communications_formed-requires c =
 
 pub returns-then-not-communications_formed : goal.returns-then-not-communications_formed
 returns-then-not-communications_formed c =
-    let l = c.before.before.before in
-    turn_fails _ _ l.loop-g.g (omega arith) c.communications_formed.ensures c.if-not-communications_formed.true-raw
+    turn_fails _ _ c.loop-g.g (omega arith) c.communications_formed.ensures c.if-not-communications_formed.true-raw
 
 pub loop-g-preserved : goal.loop-g-preserved
 loop-g-preserved c =
-    let l = c.before.before.before in
-    turn_holds _ _ l.loop-g.g (omega arith) l.loop-g.invariant.1 c.communications_formed.ensures c.if-not-communications_formed.false-raw
+    turn_holds _ _ c.loop-g.g (omega arith) c.loop-g.invariant.1 c.communications_formed.ensures c.if-not-communications_formed.false-raw
 
 pub returns : goal.returns
 returns c =
-    let l = c.before in
-    turns_end _ _ l.loop-g.g (omega arith) (omega arith) l.loop-g.invariant.1
+    turns_end _ _ c.loop-g.g (omega arith) (omega arith) c.loop-g.invariant.1

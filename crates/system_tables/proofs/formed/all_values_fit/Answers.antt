@@ -14,15 +14,12 @@ value_fits-requires c =
 
 pub returns-then-not-value_fits : goal.returns-then-not-value_fits
 returns-then-not-value_fits c =
-    let l = c.before.before.before in
-    turn_fails _ _ l.loop-e.e (omega arith) c.value_fits.ensures c.if-not-value_fits.true-raw
+    turn_fails _ _ c.loop-e.e (omega arith) c.value_fits.ensures c.if-not-value_fits.true-raw
 
 pub loop-e-preserved : goal.loop-e-preserved
 loop-e-preserved c =
-    let l = c.before.before.before in
-    turn_holds _ _ l.loop-e.e (omega arith) l.loop-e.invariant.1 c.value_fits.ensures c.if-not-value_fits.false-raw
+    turn_holds _ _ c.loop-e.e (omega arith) c.loop-e.invariant.1 c.value_fits.ensures c.if-not-value_fits.false-raw
 
 pub returns : goal.returns
 returns c =
-    let l = c.before in
-    turns_end _ _ l.loop-e.e (omega arith) (omega arith) l.loop-e.invariant.1
+    turns_end _ _ c.loop-e.e (omega arith) (omega arith) c.loop-e.invariant.1

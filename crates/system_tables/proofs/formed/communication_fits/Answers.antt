@@ -14,29 +14,19 @@ returns-then-w-eq-NO_COMMUNICATION c = rw (eq-eqb _ _ c.if-w-eq-NO_COMMUNICATION
 pub returns-then-channel_count-q : goal.returns-then-channel_count-q
 unfolding communication_fits
 returns-then-channel_count-q c =
-    let n = c.before in
-    let p = n.before in
-    rw (ne_eqb _ _ p.if-w-eq-NO_COMMUNICATION.false)
-    (and_no _ (le-ltb _ _ (rw (n.channel_count.ensures, p.channel_part-q.ensures) at c.if-channel_count-q.true)))
+    rw (ne_eqb _ _ c.if-w-eq-NO_COMMUNICATION.false)
+    (and_no _ (le-ltb _ _ (rw (c.channel_count.ensures, c.channel_part-q.ensures) at c.if-channel_count-q.true)))
 
 pub message_formed-requires : goal.message_formed-requires
 message_formed-requires c =
-    let e = c.before in
-    let n = e.before in
-    let p = n.before in
-    let s = p.before.before.before.before in
-    let t = s.args.t.now in
-    let q = p.channel_part-q.result in
-    let known : q < channel_count t = omega (arith, n.channel_count.ensures, e.if-channel_count-q.false) in
-    ((s.requires.0.0, omega (arith, s.requires.0.1), channel_width t (channel_count t) q s.requires.0.2 known), s.requires.1)
+    let t = c.args.t.now in
+    let q = c.channel_part-q.result in
+    let known : q < channel_count t = omega (arith, c.channel_count.ensures, c.if-channel_count-q.false) in
+    ((c.requires.0.0, omega (arith, c.requires.0.1), channel_width t (channel_count t) q c.requires.0.2 known), c.requires.1)
 
 pub returns : goal.returns
 unfolding communication_fits
 returns c =
-    let m = c.before in
-    let e = m.before in
-    let n = e.before in
-    let p = n.before in
-    rw (ne_eqb _ _ p.if-w-eq-NO_COMMUNICATION.false)
-    (and_yes (lt-ltb _ _ (rw (n.channel_count.ensures, p.channel_part-q.ensures) at e.if-channel_count-q.false))
-    (rw (m.message_part.ensures, p.channel_part-q.ensures) at c.message_formed.ensures))
+    rw (ne_eqb _ _ c.if-w-eq-NO_COMMUNICATION.false)
+    (and_yes (lt-ltb _ _ (rw (c.channel_count.ensures, c.channel_part-q.ensures) at c.if-channel_count-q.false))
+    (rw (c.message_part.ensures, c.channel_part-q.ensures) at c.message_formed.ensures))

@@ -13,5 +13,4 @@ communication_fits-requires c =
 pub returns : goal.returns
 unfolding communication_formed
 returns c =
-    let g = c.before in
-    rw (g.communication_at-w.ensures, g.graph_at.ensures) at c.communication_fits.ensures
+    rw (c.communication_at-w.ensures, c.graph_at.ensures) at c.communication_fits.ensures

@@ -8,13 +8,11 @@ action_count-requires c = rw c.graph_at.ensures c.requires.2.words
 
 pub all_communications_formed-requires : goal.all_communications_formed-requires
 all_communications_formed-requires c =
-    let g = c.before in
-    let p = g.requires in
-    let few : c.action_count.result ≤ action_room = rw (c.action_count.ensures, g.graph_at.ensures) p.2.counts.actions in
-    (p.0, p.1, few, λ a l. (p.2, rw (c.action_count.ensures, g.graph_at.ensures) at l))
+    let p = c.requires in
+    let few : c.action_count.result ≤ action_room = rw (c.action_count.ensures, c.graph_at.ensures) p.2.counts.actions in
+    (p.0, p.1, few, λ a l. (p.2, rw (c.action_count.ensures, c.graph_at.ensures) at l))
 
 pub returns : goal.returns
 unfolding communications_formed
 returns c =
-    let n = c.before in
-    rw (n.action_count.ensures, n.graph_at.ensures) at c.all_communications_formed.ensures
+    rw (c.action_count.ensures, c.graph_at.ensures) at c.all_communications_formed.ensures

@@ -13,8 +13,7 @@ all_graphs_formed-requires c =
 pub returns-then-not-all_graphs_formed : goal.returns-then-not-all_graphs_formed
 unfolding members_formed
 returns-then-not-all_graphs_formed c =
-    let f = c.before in
-    and_no _ (rw f.graph_count-n.ensures at (failed f.all_graphs_formed.ensures c.if-not-all_graphs_formed.true-raw))
+    and_no _ (rw c.graph_count-n.ensures at (failed c.all_graphs_formed.ensures c.if-not-all_graphs_formed.true-raw))
 
 pub all_channels_formed-requires : goal.all_channels_formed-requires
 all_channels_formed-requires c =
@@ -24,36 +23,20 @@ all_channels_formed-requires c =
 pub returns-then-not-all_channels_formed : goal.returns-then-not-all_channels_formed
 unfolding members_formed
 returns-then-not-all_channels_formed c =
-    let h = c.before in
-    let k = h.before in
-    let a = k.before in
-    let f = a.before in
-    and_yes (rw f.graph_count-n.ensures at (held f.all_graphs_formed.ensures a.if-not-all_graphs_formed.false-raw))
-    (and_no _ (rw k.channel_count.ensures at (failed h.all_channels_formed.ensures c.if-not-all_channels_formed.true-raw)))
+    and_yes (rw c.graph_count-n.ensures at (held c.all_graphs_formed.ensures c.if-not-all_graphs_formed.false-raw))
+    (and_no _ (rw c.channel_count.ensures at (failed c.all_channels_formed.ensures c.if-not-all_channels_formed.true-raw)))
 
 pub all_members_formed-requires : goal.all_members_formed-requires
 all_members_formed-requires c =
-    let h = c.before in
-    let k = h.before in
-    let a = k.before in
-    let f = a.before in
-    let n = f.before in
-    let s = n.before.before in
-    let t = s.args.t.now in (
-      (s.requires.0, few_channels t s.requires.1, rw k.channel_count.ensures at (held h.all_channels_formed.ensures c.if-not-all_channels_formed.false-raw)),
-      omega (arith, n.graph_count-n.ensures, few_graphs t s.requires.1),
-      graphs_sound t s.args.building n.graph_count-n.result (held f.all_graphs_formed.ensures a.if-not-all_graphs_formed.false-raw),
+    let t = c.args.t.now in (
+      (c.requires.0, few_channels t c.requires.1, rw c.channel_count.ensures at (held c.all_channels_formed.ensures c.if-not-all_channels_formed.false-raw)),
+      omega (arith, c.graph_count-n.ensures, few_graphs t c.requires.1),
+      graphs_sound t c.args.building c.graph_count-n.result (held c.all_graphs_formed.ensures c.if-not-all_graphs_formed.false-raw),
     )
 
 pub returns : goal.returns
 unfolding members_formed
 returns c =
-    let b = c.before in
-    let h = b.before in
-    let k = h.before in
-    let a = k.before in
-    let f = a.before in
-    let n = f.before in
-    and_yes (rw n.graph_count-n.ensures at (held f.all_graphs_formed.ensures a.if-not-all_graphs_formed.false-raw))
-    (and_yes (rw k.channel_count.ensures at (held h.all_channels_formed.ensures b.if-not-all_channels_formed.false-raw))
-    (rw n.graph_count-n.ensures at c.all_members_formed.ensures))
+    and_yes (rw c.graph_count-n.ensures at (held c.all_graphs_formed.ensures c.if-not-all_graphs_formed.false-raw))
+    (and_yes (rw c.channel_count.ensures at (held c.all_channels_formed.ensures c.if-not-all_channels_formed.false-raw))
+    (rw c.graph_count-n.ensures at c.all_members_formed.ensures))

@@ -9,22 +9,16 @@ use Rattle.system_tables.proofs.formed.message_fits.Goals as goal
 pub returns-then-message_count-w : goal.returns-then-message_count-w
 unfolding message_fits
 returns-then-message_count-w c =
-    let m = c.before in
-    and_no _ (ne_eqb _ _ (rw (m.message_count.ensures, m.width_of-w.ensures) at c.if-message_count-w.true))
+    and_no _ (ne_eqb _ _ (rw (c.message_count.ensures, c.width_of-w.ensures) at c.if-message_count-w.true))
 
 pub returns : goal.returns
 unfolding message_fits
 returns c =
-    let e = c.before in
-    let m = e.before in
-    let w = m.before in
-    and_yes (eq-eqb _ _ (rw (m.message_count.ensures, w.width_of-w.ensures) at e.if-message_count-w.false))
-    (rw w.width_of-w.ensures at c.all_values_fit.ensures)
+    and_yes (eq-eqb _ _ (rw (c.message_count.ensures, c.width_of-w.ensures) at c.if-message_count-w.false))
+    (rw c.width_of-w.ensures at c.all_values_fit.ensures)
 
 pub all_values_fit-requires : goal.all_values_fit-requires
 all_values_fit-requires c =
-    let m = c.before in
-    let w = m.before in
-    let p = w.requires in
-    let few : w.width_of-w.result ≤ message_room = omega (arith, w.width_of-w.ensures, p.0.2) in
-    (few, λ e l. (p.1, p.0.0, p.0.1, omega arith, omega (arith, m.message_count.ensures, c.if-message_count-w.false)))
+    let p = c.requires in
+    let few : c.width_of-w.result ≤ message_room = omega (arith, c.width_of-w.ensures, p.0.2) in
+    (few, λ e l. (p.1, p.0.0, p.0.1, omega arith, omega (arith, c.message_count.ensures, c.if-message_count-w.false)))

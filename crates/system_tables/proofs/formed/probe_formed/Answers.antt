@@ -10,15 +10,10 @@ returns-then-not-is_probe c = and_no _ (failed c.is_probe.ensures c.if-not-is_pr
 pub returns-then-not-is_send : goal.returns-then-not-is_send
 unfolding probe_formed
 returns-then-not-is_send c =
-    let s = c.before in
-    let k = s.before in
-    and_yes (held k.is_probe.ensures k.if-not-is_probe.false-raw) (and_no _ (failed s.is_send.ensures c.if-not-is_send.true-raw))
+    and_yes (held c.is_probe.ensures c.if-not-is_probe.false-raw) (and_no _ (failed c.is_send.ensures c.if-not-is_send.true-raw))
 
 pub returns : goal.returns
 unfolding probe_formed
 returns c =
-    let d = c.before in
-    let s = d.before in
-    let k = s.before in
-    and_yes (held k.is_probe.ensures k.if-not-is_probe.false-raw)
-    (and_yes (held s.is_send.ensures d.if-not-is_send.false-raw) (rw c.message_count.ensures))
+    and_yes (held c.is_probe.ensures c.if-not-is_probe.false-raw)
+    (and_yes (held c.is_send.ensures c.if-not-is_send.false-raw) (rw c.message_count.ensures))

@@ -9,4 +9,4 @@ returns-then-not-is_receive c = and_no _ (failed c.is_receive.ensures c.if-not-i
 
 pub returns : goal.returns
 unfolding receive_fits
-returns c = let e = c.before in and_yes (held e.is_receive.ensures e.if-not-is_receive.false-raw) c.message_fits.ensures
+returns c = and_yes (held c.is_receive.ensures c.if-not-is_receive.false-raw) c.message_fits.ensures

@@ -9,4 +9,4 @@ returns-then-not-is_send c = and_no _ (failed c.is_send.ensures c.if-not-is_send
 
 pub returns : goal.returns
 unfolding send_fits
-returns c = let e = c.before in and_yes (held e.is_send.ensures e.if-not-is_send.false-raw) c.message_fits.ensures
+returns c = and_yes (held c.is_send.ensures c.if-not-is_send.false-raw) c.message_fits.ensures

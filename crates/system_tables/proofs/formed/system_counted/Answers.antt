@@ -10,5 +10,4 @@ returns-then-graph_count-gt-GRAPHS c = and_no _ (lt-leb _ _ (rw c.graph_count.en
 pub returns : goal.returns
 unfolding system_counted
 returns c =
-    let a = c.before in
-    and_yes (le-leb _ _ (rw a.graph_count.ensures at a.if-graph_count-gt-GRAPHS.false)) (rw c.channel_count.ensures)
+    and_yes (le-leb _ _ (rw c.graph_count.ensures at c.if-graph_count-gt-GRAPHS.false)) (rw c.channel_count.ensures)

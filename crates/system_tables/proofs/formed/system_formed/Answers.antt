@@ -11,17 +11,13 @@ returns-then-t-ne-WORDS c = and_no _ (ne_eqb _ _ c.if-t-ne-WORDS.true)
 pub returns-then-not-system_counted : goal.returns-then-not-system_counted
 unfolding system_formed
 returns-then-not-system_counted c =
-    let n = c.before in
-    and_yes (eq-eqb _ _ n.if-t-ne-WORDS.false) (and_no _ (failed n.system_counted.ensures c.if-not-system_counted.true-raw))
+    and_yes (eq-eqb _ _ c.if-t-ne-WORDS.false) (and_no _ (failed c.system_counted.ensures c.if-not-system_counted.true-raw))
 
 pub members_formed-requires : goal.members_formed-requires
 members_formed-requires c =
-    let n = c.before in
-    (n.if-t-ne-WORDS.false, held n.system_counted.ensures c.if-not-system_counted.false-raw)
+    (c.if-t-ne-WORDS.false, held c.system_counted.ensures c.if-not-system_counted.false-raw)
 
 pub returns : goal.returns
 unfolding system_formed
 returns c =
-    let b = c.before in
-    let n = b.before in
-    and_yes (eq-eqb _ _ n.if-t-ne-WORDS.false) (and_yes (held n.system_counted.ensures b.if-not-system_counted.false-raw) c.members_formed.ensures)
+    and_yes (eq-eqb _ _ c.if-t-ne-WORDS.false) (and_yes (held c.system_counted.ensures c.if-not-system_counted.false-raw) c.members_formed.ensures)

@@ -1,6 +1,4 @@
-use Prim.Native.Nat.{◌-◌}
 use Rattle.laws.proofs.Tests.{held, failed, both_yes, both_no}
-use borrow.Author.Rules.{rules}
 use Rattle.time.proofs.TimeRange.contains.Goals as goal
 
 pub returns-then-not-lower_met : goal.returns-then-not-lower_met

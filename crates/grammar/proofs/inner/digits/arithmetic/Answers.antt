@@ -1,5 +1,5 @@
 use native.Mathlib.Omega.{arith}
-use Rattle.grammar.specs.declared.values.«Type».TheVariants.{Boolean, Integer}
+use Rattle.grammar.specs.declared.values.«Type».TheVariants.{Integer}
 use Rattle.grammar.proofs.DigitLaws.{both_fit, both_unfit}
 use Rattle.grammar.proofs.inner.digits.arithmetic.Goals as goal
 

@@ -1,6 +1,5 @@
 use mathlib.Core.Path.{◌∙◌}
 use native.Mathlib.Omega.{arith}
-use borrow.Author.Rules.{rules}
 use Rattle.grammar.specs.declared.values.«Type».TheVariants.{Boolean, Integer}
 use Rattle.grammar.specs.Items.{item_of}
 use Rattle.grammar.proofs.PlaneLaws.{order}

@@ -1,5 +1,3 @@
-use native.Mathlib.Omega.{arith}
-use borrow.Author.Rules.{rules}
 use Rattle.grammar.specs.Items.{item_of}
 use Rattle.grammar.specs.Inner.{left_of}
 use Rattle.grammar.proofs.PlaneLaws.{logic}

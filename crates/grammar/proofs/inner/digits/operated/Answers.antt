@@ -1,5 +1,4 @@
 use native.Mathlib.Omega.{arith}
-use borrow.Author.Rules.{rules}
 use Rattle.grammar.proofs.PlaneLaws.{arithmetic}
 use Rattle.grammar.proofs.inner.digits.operated.Goals as goal
 

@@ -1,6 +1,5 @@
 use mathlib.Core.Path.{◌∙◌}
 use Rattle.grammar.proofs.HeldLaws.{nothing, both_integers, both_booleans, none_first, none_second, integer_first, integer_second}
-use borrow.Author.Rules.{rules}
 use Rattle.grammar.proofs.inner.evaluation.binary.Goals as goal
 
 pub returns-then-b-lt-FALSE : goal.returns-then-b-lt-FALSE

@@ -2,9 +2,7 @@ use Rattle.grammar.proofs.HeldLaws.{nothing}
 use Rattle.grammar.specs.Items.{item_of}
 use Rattle.grammar.specs.Inner.{values_on}
 use Rattle.grammar.proofs.OperationLaws.{no_booleans}
-use Prim.Native.Nat.{◌-◌}
 use mathlib.Core.Path.{◌∙◌}
-use borrow.Author.Rules.{rules}
 use Rattle.grammar.proofs.inner.evaluation.booleans.Goals as goal
 
 pub returns-in-2 : goal.returns-in-2

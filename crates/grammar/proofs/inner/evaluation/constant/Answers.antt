@@ -5,7 +5,6 @@ use Rattle.grammar.specs.declared.values.Val.TheVariants.{Boolean, Integer}
 use Rattle.grammar.proofs.ItemLaws.{operand_none, through}
 use Prim.Native.Nat.{◌/◌}
 use mathlib.Core.Path.{◌∙◌}
-use borrow.Author.Rules.{rules}
 use Rattle.grammar.proofs.inner.evaluation.constant.Goals as goal
 
 pub returns-in-14 : goal.returns-in-14

@@ -6,7 +6,7 @@ use Rattle.grammar.proofs.ItemLaws.{slot_small}
 use Rattle.grammar.proofs.OperationLaws.{no_variables}
 use Rattle.grammar.proofs.EvaluationLaws.{evaluated}
 use Rattle.grammar.proofs.DrawLaws.{left_done}
-use Rattle.grammar.proofs.TurnLaws.{small, some, none_taken, drawn, looked_up, constant, halved, undrawn, Going, stuck_here}
+use Rattle.grammar.proofs.TurnLaws.{small, some, none_taken, drawn, looked_up, constant, halved, undrawn, stuck_here}
 use Rattle.grammar.proofs.TurnLaws.{gives_value, too_few, too_deep_lem, goes_on}
 use mathlib.Core.Bool.{true, false, cond}
 use lib.Dec.{ltb}

@@ -4,9 +4,7 @@ use Rattle.grammar.specs.Arith.{least, most}
 use Rattle.grammar.specs.Inner.{held_of}
 use mir.Facts.{to_z-of_z}
 use Rattle.grammar.proofs.Signed.{between}
-use Prim.Native.Nat.{◌-◌}
 use mathlib.Core.Path.{◌≡◌, ◌∙◌}
-use borrow.Author.Rules.{rules}
 use Rattle.grammar.proofs.inner.evaluation.in_range.Goals as goal
 
 pub returns-then-z-ltminus2147483648 : goal.returns-then-z-ltminus2147483648

@@ -7,7 +7,6 @@ use lib.IntN.{ℤ, pos, ◌+ℤ◌}
 use mir.Syntax.{w64}
 use mir.Val.{of_z, to_z}
 use mir.ValLaws.{to_z_pos}
-use Prim.Native.Nat.{◌-◌}
 use mathlib.Core.Path.{◌≡◌, ap, ◌∙◌}
 use native.Mathlib.Omega.{arith}
 use Rattle.grammar.proofs.inner.evaluation.integer.Goals as goal

@@ -7,7 +7,6 @@ use Rattle.grammar.proofs.OperationLaws.{no_integers}
 use Rattle.grammar.proofs.WholeLaws.{sum, difference, equal_as, less_as, most_as}
 use mir.Syntax.{w32}
 use mir.Val.{to_z, of_z}
-use Prim.Native.Nat.{◌-◌}
 use mathlib.Core.Path.{◌≡◌, ap, ◌∙◌}
 use native.Mathlib.Omega.{arith}
 use borrow.Author.Rules.{rules}

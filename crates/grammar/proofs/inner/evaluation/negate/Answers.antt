@@ -2,7 +2,6 @@ use mathlib.Core.Path.{◌∙◌}
 use Rattle.grammar.specs.Items.{item_of}
 use Rattle.grammar.specs.Inner.{values_on}
 use Rattle.grammar.proofs.HeldLaws.{nothing, held_integer, no_integer}
-use borrow.Author.Rules.{rules}
 use Rattle.grammar.proofs.inner.evaluation.negate.Goals as goal
 
 pub returns-then-a-lt-FALSE : goal.returns-then-a-lt-FALSE

@@ -2,7 +2,6 @@ use Rattle.grammar.specs.Inner.{held_of}
 use borrow.Author.Tests.{lt-ltb, le-ltb}
 use mir.Syntax.{w32}
 use mir.Val.{to_z, of_z}
-use Prim.Native.Nat.{◌-◌}
 use mathlib.Core.Path.{◌≡◌, ◌∙◌}
 use borrow.Author.Rules.{rules}
 use Rattle.grammar.proofs.inner.evaluation.number.Goals as goal

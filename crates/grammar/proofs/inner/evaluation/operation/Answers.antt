@@ -2,7 +2,6 @@ use mathlib.Core.Path.{◌∙◌}
 use Rattle.grammar.specs.Items.{item_of}
 use Rattle.grammar.specs.Inner.{binary_on}
 use Rattle.grammar.proofs.OperationLaws.{binary_word_lem}
-use borrow.Author.Rules.{rules}
 use Rattle.grammar.proofs.inner.evaluation.operation.Goals as goal
 
 pub returns-in-1 : goal.returns-in-1

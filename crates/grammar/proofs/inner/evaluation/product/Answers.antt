@@ -1,9 +1,7 @@
 use lib.IntN.{◌*ℤ◌}
 use Rattle.grammar.specs.Arith.{fitted}
 use Rattle.grammar.proofs.Signed.{cast_fits, op_fits, op_is, product_fits}
-use Prim.Native.Nat.{◌-◌}
 use mathlib.Core.Path.{ap, ◌∙◌}
-use borrow.Author.Rules.{rules}
 use Rattle.grammar.proofs.inner.evaluation.product.Goals as goal
 
 pub overflow_mul-x : goal.overflow_mul-x

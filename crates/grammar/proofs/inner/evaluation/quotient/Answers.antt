@@ -2,9 +2,7 @@ use lib.Signed.{quot_z}
 use Rattle.grammar.specs.Arith.{fitted}
 use Rattle.grammar.specs.Inner.{held_of}
 use Rattle.grammar.proofs.Signed.{cast_fits, op_fits, op_is, quotient_fits, zero_yes, zero_no, divisor}
-use Prim.Native.Nat.{◌-◌}
 use mathlib.Core.Path.{ap, ◌∙◌}
-use borrow.Author.Rules.{rules}
 use Rattle.grammar.proofs.inner.evaluation.quotient.Goals as goal
 
 pub returns-then-y-eq0 : goal.returns-then-y-eq0

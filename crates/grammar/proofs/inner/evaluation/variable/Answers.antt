@@ -2,7 +2,6 @@ use Rattle.grammar.specs.Inner.{held_of}
 use borrow.Author.Tests.{lt-ltb, le-ltb}
 use mathlib.Core.Path.{ap, ◌∙◌}
 use Rattle.grammar.specs.declared.evaluation.Evaluated.TheVariants.{Known}
-use borrow.Author.Rules.{rules}
 use Rattle.grammar.proofs.inner.evaluation.variable.Goals as goal
 
 pub returns-then-n-lt16 : goal.returns-then-n-lt16

@@ -1,7 +1,5 @@
 use Rattle.grammar.specs.Inner.{held_of}
 use borrow.Author.Tests.{lt-ltb, le-ltb}
-use Prim.Native.Nat.{◌-◌}
-use borrow.Author.Rules.{rules}
 use Rattle.grammar.proofs.inner.evaluation.variable_over.Goals as goal
 
 pub returns-then-n-lt16 : goal.returns-then-n-lt16

@@ -5,10 +5,8 @@ use mir.Syntax.{w32, w64}
 use mir.Val.{SFits, of_z, to_z}
 use mir.Facts.{to_z-of_z, sfits_widen}
 use mir.ValLaws.{to_z_pos}
-use Prim.Native.Nat.{◌-◌}
 use mathlib.Core.Path.{◌≡◌, ap}
 use native.Mathlib.Omega.{arith}
-use borrow.Author.Rules.{rules}
 use Rattle.grammar.proofs.inner.evaluation.whole.Goals as goal
 use Rattle.grammar.proofs.inner.evaluation.whole.Goals.{Start}
 

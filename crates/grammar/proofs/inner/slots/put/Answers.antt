@@ -1,8 +1,4 @@
-use Prim.Native.Nat.{◌+◌, ◌*◌, ◌<◌}
 use mathlib.Core.Path.{◌≡◌, ap, ◌∙◌}
-use native.Mathlib.Omega.{arith}
-use lib.ListN.{length-set}
-use borrow.Author.Rules.{rules}
 use Rattle.grammar.specs.Values.{kind_word}
 use Rattle.grammar.specs.Slots.{kind_in}
 use Rattle.grammar.proofs.inner.slots.put.Goals as goal

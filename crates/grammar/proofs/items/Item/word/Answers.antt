@@ -1,5 +1,3 @@
-use Prim.Native.Nat.{◌-◌}
-use borrow.Author.Rules.{rules}
 use Rattle.grammar.proofs.items.Item.word.Goals as goal
 
 pub returns-in-Variable : goal.returns-in-Variable

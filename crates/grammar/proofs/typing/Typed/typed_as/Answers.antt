@@ -1,7 +1,6 @@
 use lib.Dec.{eqb}
 use Prim.Native.Nat.{ℕ}
 use mathlib.Core.Path.{ap}
-use borrow.Author.Rules.{rules}
 use Rattle.grammar.proofs.typing.Typed.typed_as.Goals as goal
 
 pub returns-in-Known : goal.returns-in-Known

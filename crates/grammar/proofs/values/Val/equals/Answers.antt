@@ -1,7 +1,6 @@
 use mir.Val.{SFits}
 use mir.Syntax.{w32}
 use Rattle.grammar.proofs.Signed.{same_bits}
-use Prim.Native.Nat.{◌-◌}
 use borrow.Author.Rules.{rules}
 use Rattle.grammar.proofs.values.Val.equals.Goals as goal
 

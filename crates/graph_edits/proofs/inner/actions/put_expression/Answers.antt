@@ -1,4 +1,3 @@
-use borrow.Author.Rules.{rules}
 use Rattle.graph_edits.specs.Edits.{with_expression}
 use Rattle.graph_edits.proofs.inner.actions.put_expression.Goals as goal
 

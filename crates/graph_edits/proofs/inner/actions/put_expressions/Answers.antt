@@ -1,10 +1,8 @@
-use Prim.Native.Nat.{◌-◌, ◌≤◌}
 use mathlib.Core.Path.{◌≡◌, ◌∙◌}
 use native.Mathlib.Omega.{arith}
 use native.Mathlib.Numerals.{add-one}
-use lib.ListN.{length}
 use borrow.Author.Rules.{rules}
-use Rattle.graph_edits.specs.Edits.{chosen, with_expressions}
+use Rattle.graph_edits.specs.Edits.{with_expressions}
 use Rattle.graph_edits.proofs.inner.actions.put_expressions.Goals as goal
 
 pub loop-e-init : goal.loop-e-init

@@ -1,5 +1,4 @@
 use native.Mathlib.Omega.{arith}
-use borrow.Author.Rules.{rules}
 use Rattle.graph_edits.proofs.ActionLaws.{targets_actions}
 use Rattle.graph_edits.proofs.inner.actions.put_receive.Goals as goal
 

@@ -1,4 +1,3 @@
-use borrow.Author.Rules.{rules}
 use Rattle.graph_edits.proofs.inner.actions.put_reset.Goals as goal
 
 pub returns : goal.returns

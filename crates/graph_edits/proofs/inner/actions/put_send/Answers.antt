@@ -1,5 +1,4 @@
 use native.Mathlib.Omega.{arith}
-use borrow.Author.Rules.{rules}
 use Rattle.graph_edits.specs.Edits.{chosen}
 use Rattle.graph_edits.proofs.ActionLaws.{expressions_kept}
 use Rattle.graph_edits.proofs.inner.actions.put_send.Goals as goal

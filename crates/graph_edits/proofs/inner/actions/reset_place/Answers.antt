@@ -1,6 +1,5 @@
 use native.Mathlib.Omega.{arith}
 use Rattle.graph_edits.proofs.ActionLaws.{reset_row}
-use borrow.Author.Rules.{rules}
 use Rattle.graph_edits.proofs.inner.actions.reset_place.Goals as goal
 
 pub returns : goal.returns

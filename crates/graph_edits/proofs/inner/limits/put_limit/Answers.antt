@@ -1,4 +1,3 @@
-use borrow.Author.Rules.{rules}
 use Rattle.graph_edits.specs.Edits.{with_limit}
 use Rattle.graph_edits.proofs.inner.limits.put_limit.Goals as goal
 

@@ -1,9 +1,6 @@
-use Prim.Native.Nat.{◌-◌, ◌≤◌}
 use mathlib.Core.Path.{◌≡◌, refl, ◌∙◌}
 use native.Mathlib.Omega.{arith}
-use lib.ListN.{length, length-set}
-use borrow.Author.Rules.{rules}
-use Rattle.graph_edits.specs.Rows.{gap_of}
+use lib.ListN.{length-set}
 use Rattle.graph_edits.proofs.RowLaws.{gap_none, gap_step}
 use Rattle.graph_edits.proofs.inner.rows.open_gap.Goals as goal
 

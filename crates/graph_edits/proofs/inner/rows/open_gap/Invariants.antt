@@ -1,10 +1,7 @@
-use Prim.Native.Nat.{◌-◌, ◌≤◌}
-use mathlib.Core.Path.{◌≡◌, refl, ◌∙◌}
-use native.Mathlib.Omega.{arith}
-use lib.ListN.{length, length-set}
-use borrow.Author.Rules.{rules}
+use Prim.Native.Nat.{◌≤◌}
+use mathlib.Core.Path.{◌≡◌}
+use lib.ListN.{length}
 use Rattle.graph_edits.specs.Rows.{gap_of}
-use Rattle.graph_edits.proofs.RowLaws.{gap_none, gap_step}
 use Rattle.graph_edits.proofs.inner.rows.open_gap.Given as goal
 
 abbrev pub invariant-loop-i : goal.invariant-loop-i

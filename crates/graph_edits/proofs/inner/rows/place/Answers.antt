@@ -5,7 +5,7 @@ use native.Mathlib.Nat.{mul-zero, mul-suc}
 use native.Mathlib.Numerals.{add-one}
 use lib.ListN.{length}
 use borrow.Author.Rules.{rules}
-use Rattle.graph_edits.specs.Rows.{number_at, place_from, place_of}
+use Rattle.graph_edits.specs.Rows.{number_at, place_from}
 use Rattle.graph_edits.proofs.RowLaws.{row_room, place_here, place_next, place_end}
 use Rattle.graph_edits.proofs.inner.rows.place.Goals as goal
 

@@ -1,12 +1,6 @@
-use Prim.Native.Nat.{ℕ, ◌+◌, ◌-◌, ◌*◌, ◌≤◌, ◌<◌}
-use mathlib.Core.Path.{◌≡◌, sym, ap, ◌∙◌}
-use native.Mathlib.Omega.{arith}
-use native.Mathlib.Nat.{mul-zero, mul-suc}
-use native.Mathlib.Numerals.{add-one}
-use lib.ListN.{length}
-use borrow.Author.Rules.{rules}
+use Prim.Native.Nat.{◌+◌, ◌-◌, ◌*◌, ◌≤◌}
+use mathlib.Core.Path.{◌≡◌}
 use Rattle.graph_edits.specs.Rows.{number_at, place_from, place_of}
-use Rattle.graph_edits.proofs.RowLaws.{row_room, place_here, place_next, place_end}
 use Rattle.graph_edits.proofs.inner.rows.place.Given as goal
 
 abbrev pub invariant-loop-i : goal.invariant-loop-i

@@ -1,9 +1,8 @@
-use Prim.Native.Nat.{ℕ, ◌-◌, ◌≤◌}
+use Prim.Native.Nat.{ℕ}
 use mathlib.Core.Path.{◌≡◌, refl, ap, ◌∙◌}
 use native.Mathlib.Omega.{arith}
 use lib.ListN.{length, length-set}
 use lib.Seq.{paste}
-use borrow.Author.Rules.{rules}
 use Rattle.graph_edits.proofs.RowLaws.{paste_none, paste_step, paste_all}
 use Rattle.graph_edits.proofs.inner.rows.write_words.Goals as goal
 

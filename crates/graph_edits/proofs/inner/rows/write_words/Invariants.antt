@@ -1,10 +1,7 @@
-use Prim.Native.Nat.{ℕ, ◌-◌, ◌≤◌}
-use mathlib.Core.Path.{◌≡◌, refl, ap, ◌∙◌}
-use native.Mathlib.Omega.{arith}
-use lib.ListN.{length, length-set}
+use Prim.Native.Nat.{◌-◌, ◌≤◌}
+use mathlib.Core.Path.{◌≡◌}
+use lib.ListN.{length}
 use lib.Seq.{paste}
-use borrow.Author.Rules.{rules}
-use Rattle.graph_edits.proofs.RowLaws.{paste_none, paste_step, paste_all}
 use Rattle.graph_edits.proofs.inner.rows.write_words.Given as goal
 
 abbrev pub invariant-loop-k : goal.invariant-loop-k

@@ -1,4 +1,3 @@
-use borrow.Author.Rules.{rules}
 use Rattle.graph_edits.specs.Edits.{with_group}
 use Rattle.graph_edits.proofs.inner.transitions.put_group.Goals as goal
 

@@ -1,4 +1,3 @@
-use borrow.Author.Rules.{rules}
 use Rattle.graph_edits.specs.Edits.{with_guard}
 use Rattle.graph_edits.proofs.inner.transitions.put_guard.Goals as goal
 

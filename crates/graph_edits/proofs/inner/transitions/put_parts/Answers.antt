@@ -1,4 +1,3 @@
-use borrow.Author.Rules.{rules}
 use Rattle.graph_edits.specs.Edits.{transition_at}
 use Rattle.graph_edits.proofs.inner.transitions.put_parts.Goals as goal
 

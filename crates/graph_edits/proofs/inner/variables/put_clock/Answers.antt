@@ -1,4 +1,3 @@
-use borrow.Author.Rules.{rules}
 use Rattle.graph_edits.proofs.inner.variables.put_clock.Goals as goal
 
 pub returns : goal.returns

@@ -1,7 +1,6 @@
 use mathlib.Core.Path.{ap}
 use lib.ListN.{replicate}
 use Rattle.time.specs.declared.TimeRange.{TimeRange}
-use borrow.Author.Rules.{rules}
 use Rattle.graph_tables.specs.Sizes.{limit_room}
 use Rattle.graph_tables.proofs.handed.Limits.none.Goals as goal
 

@@ -1,4 +1,3 @@
-use borrow.Author.Rules.{rules}
 use Rattle.graph_tables.specs.Messages.{is_plain}
 use Rattle.graph_tables.proofs.inner.messages.is_plain.Goals as goal
 

@@ -1,4 +1,3 @@
-use borrow.Author.Rules.{rules}
 use Rattle.graph_tables.specs.Messages.{message_count}
 use Rattle.graph_tables.proofs.inner.messages.message_count.Goals as goal
 

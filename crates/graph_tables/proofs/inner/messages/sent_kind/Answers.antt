@@ -1,5 +1,4 @@
 use mathlib.Core.Path.{◌∙◌}
-use borrow.Author.Rules.{rules}
 use native.Mathlib.Omega.{arith}
 use Rattle.graph_tables.proofs.MessageLaws.{value_room, value_short}
 use Rattle.graph_tables.proofs.inner.messages.sent_kind.Goals as goal

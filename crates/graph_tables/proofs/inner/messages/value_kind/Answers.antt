@@ -1,6 +1,5 @@
 use mathlib.Core.Path.{sym, ◌∙◌}
 use native.Mathlib.Omega.{arith}
-use borrow.Author.Rules.{rules}
 use Rattle.graph_tables.specs.Messages.{value_kind}
 use Rattle.graph_tables.proofs.MessageLaws.{value_room, value_var}
 use Rattle.graph_tables.proofs.inner.messages.value_kind.Goals as goal

@@ -1,7 +1,5 @@
 use borrow.Author.Tests.{eq-eqb, ne_eqb}
 use Rattle.graph_tables.specs.Formed.{action_known}
-use Prim.Native.Nat.{◌-◌}
-use borrow.Author.Rules.{rules}
 use Rattle.graph_tables.proofs.inner.tests.action_known.Goals as goal
 
 pub returns-then-a : goal.returns-then-a

@@ -1,11 +1,8 @@
 use Rattle.graph_tables.specs.Sizes.{item_room}
 use Rattle.graph_tables.specs.Formed.{effect_draws}
 use Rattle.laws.specs.Below.{sum_below}
-use Rattle.laws.proofs.BelowLaws.{sum_none, sum_more}
-use Prim.Native.Nat.{ℕ, ◌+◌, ◌-◌, ◌*◌, ◌≤◌}
-use mathlib.Core.Path.{◌≡◌, sym, ap, ◌∙◌}
-use native.Mathlib.Omega.{arith}
-use borrow.Author.Rules.{rules}
+use Prim.Native.Nat.{◌-◌, ◌*◌, ◌≤◌}
+use mathlib.Core.Path.{◌≡◌}
 use Rattle.graph_tables.proofs.inner.tests.all_draws.Given as goal
 
 abbrev pub invariant-loop-e : goal.invariant-loop-e

@@ -5,10 +5,8 @@ use Rattle.graph_tables.specs.Formed.{effect_draws}
 use lib.ListN.{length-take}
 use Rattle.grammar.specs.Draws.{draws_of}
 use Rattle.grammar.proofs.DrawLaws.{draws_few}
-use Prim.Native.Nat.{◌+◌, ◌-◌, ◌*◌}
 use mathlib.Core.Path.{◌≡◌, ap, ◌∙◌}
 use native.Mathlib.Omega.{arith}
-use borrow.Author.Rules.{rules}
 use Rattle.graph_tables.proofs.inner.tests.effect_draws.Goals as goal
 
 pub returns : goal.returns

@@ -1,9 +1,7 @@
 use Rattle.time.specs.declared.TimeRange.{TimeRange}
 use Rattle.graph_tables.specs.Formed.{zero_inside}
 use Rattle.time.specs.Time.{in_range}
-use Prim.Native.Nat.{◌-◌}
 use mathlib.Core.Path.{ap, ◌∙◌}
-use borrow.Author.Rules.{rules}
 use Rattle.graph_tables.proofs.inner.tests.zero_inside.Goals as goal
 
 pub returns : goal.returns

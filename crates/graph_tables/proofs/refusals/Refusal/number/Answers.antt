@@ -1,5 +1,3 @@
-use Prim.Native.Nat.{◌-◌}
-use borrow.Author.Rules.{rules}
 use Rattle.graph_tables.proofs.refusals.Refusal.number.Goals as goal
 
 pub returns-in-MissingAction : goal.returns-in-MissingAction

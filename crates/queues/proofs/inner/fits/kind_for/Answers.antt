@@ -7,12 +7,11 @@ pub nonzero_rem-result : goal.nonzero_rem-result
 nonzero_rem-result c = omega (arith, slots_width (length c.args.kinds.now))
 
 pub offset_bounds-kinds-i : goal.offset_bounds-kinds-i
-offset_bounds-kinds-i c = let s = c.before.before in omega (arith, kind_place_lem _ _ s.args.i c.slots_for-slots.ensures s.requires)
+offset_bounds-kinds-i c = omega (arith, kind_place_lem _ _ c.args.i c.slots_for-slots.ensures c.requires)
 
 pub bounds-kinds-i : goal.bounds-kinds-i
 bounds-kinds-i c =
-    let s = c.before.before.before in
-    omega (arith, kind_place_lem _ _ s.args.i c.slots_for-slots.ensures s.requires)
+    omega (arith, kind_place_lem _ _ c.args.i c.slots_for-slots.ensures c.requires)
 
 pub returns : goal.returns
 returns c = rw c.slots_for-slots.ensures

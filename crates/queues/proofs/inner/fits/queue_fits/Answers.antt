@@ -21,8 +21,7 @@ low c =
     le-leb (stored_of a.q.now) a.ceiling (omega (arith, c.stored-n.ensures))
 
 whole : (c : Else-not-whole_messages) →
-    let s = c.before.before.before.before.before.before.before.before in
-    whole_messages (length s.args.kinds.now) (stored_of s.args.q.now) ≡ true
+    whole_messages (length c.args.kinds.now) (stored_of c.args.q.now) ≡ true
 whole c = rw c.stored-n.ensures at (held c.whole_messages.ensures c.if-not-whole_messages.false-raw)
 
 pub returns-then-not-counts_fit : goal.returns-then-not-counts_fit
@@ -42,17 +41,14 @@ returns-then-ceiling-n c =
 pub returns-then-not-whole_messages : goal.returns-then-not-whole_messages
 unfolding queue_fits
 returns-then-not-whole_messages c =
-    let w = c.before in
-    let e = w.stored-n.ensures in
+    let e = c.stored-n.ensures in
     and_yes (counts (goal.at.returns-then-not-whole_messages c).Else-not-counts_fit)
-    (and_yes (low (goal.at.returns-then-not-whole_messages c).Else-ceiling-n) (and_no _ (rw e at (failed w.whole_messages.ensures c.if-not-whole_messages.true-raw))))
+    (and_yes (low (goal.at.returns-then-not-whole_messages c).Else-ceiling-n) (and_no _ (rw e at (failed c.whole_messages.ensures c.if-not-whole_messages.true-raw))))
 
 pub slots_fit-requires : goal.slots_fit-requires
 slots_fit-requires c =
-    let l = c.before.before in
-    let s = l.before.before.before.before.before.before in
-    let e = l.stored-n.ensures in (
-      fits_counted _ s.requires (counts (goal.at.slots_fit-requires c).Else-not-counts_fit),
+    let e = c.stored-n.ensures in (
+      fits_counted _ c.requires (counts (goal.at.slots_fit-requires c).Else-not-counts_fit),
       omega arith,
       λ h. whole_wide _ _ (whole_true _ _ (whole (goal.at.slots_fit-requires c).Else-not-whole_messages)) (omega arith),
     )
@@ -60,9 +56,7 @@ slots_fit-requires c =
 pub returns : goal.returns
 unfolding queue_fits
 returns c =
-    let l = c.before.before.before in
-    let s = l.before.before.before.before.before.before in
     and_yes (counts (goal.at.returns c).Else-not-counts_fit)
     (and_yes (low (goal.at.returns c).Else-ceiling-n)
     (and_yes (whole (goal.at.returns c).Else-not-whole_messages)
-    (c.slots_fit.ensures ∙ ap (λ (n : ℕ). all_below n (slot_fits s.args.q.now s.args.kinds.now)) l.stored-n.ensures)))
+    (c.slots_fit.ensures ∙ ap (λ (n : ℕ). all_below n (slot_fits c.args.q.now c.args.kinds.now)) c.stored-n.ensures)))

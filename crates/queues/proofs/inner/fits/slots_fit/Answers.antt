@@ -7,7 +7,7 @@ pub loop-i-init : goal.loop-i-init
 loop-i-init c = (search rules, all_none _)
 
 pub slot_fits-requires : goal.slot_fits-requires
-slot_fits-requires c = let s = c.before.before.before.before in (s.requires.0, omega arith, s.requires.2 (omega arith))
+slot_fits-requires c = (c.requires.0, omega arith, c.requires.2 (omega arith))
 
 pub returns-then-not-slot_fits : goal.returns-then-not-slot_fits
 returns-then-not-slot_fits c = sym (all_fails _ _ c.loop-i.i (omega arith) (failed c.slot_fits.ensures c.if-not-slot_fits.true-raw))

@@ -11,13 +11,11 @@ loop-k-init c = (search rules, refl)
 
 -- the value at hand is stored, and a message has room for it
 known : (c : In-loop-k) → c.loop-k.k < stored_of c.args.q.now
-known c = let n = c.before.before in omega (arith, n.slots_for-k-end.ensures, n.requires.2)
+known c = omega (arith, c.slots_for-k-end.ensures, c.requires.2)
 
 within : (c : In-loop-k) → c.loop-k.k < message_room
 within c =
-    let n = c.before.before in
-    let s = n.before.before in
-    omega (arith, n.slots_for-k-end.ensures, slots_few s.args.width s.requires.1)
+    omega (arith, c.slots_for-k-end.ensures, slots_few c.args.width c.requires.1)
 
 pub value_at-requires : goal.value_at-requires
 value_at-requires c = (c.requires.0, known (goal.at.value_at-requires c).In-loop-k)
@@ -32,8 +30,7 @@ loop-k-preserved c =
 
 pub returns : goal.returns
 returns c =
-    let n = c.before.before in
-    let e : c.loop-k.k ≡ slots_for n.args.width = omega (arith, n.slots_for-k-end.ensures) in
+    let e : c.loop-k.k ≡ slots_for c.args.width = omega (arith, c.slots_for-k-end.ensures) in
     rw (c.loop-k.invariant.1, e)
 
 pub offset_bounds-values-k : goal.offset_bounds-values-k

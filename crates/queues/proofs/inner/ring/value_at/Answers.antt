@@ -5,6 +5,5 @@ use Rattle.queues.proofs.inner.ring.value_at.Goals as goal
 
 pub returns : goal.returns
 returns c =
-    let s = c.before.before.before.before in
-    let e = queue_at _ _ s.requires.1 in
+    let e = queue_at _ _ c.requires.1 in
     c.value_of.ensures ∙ rw (c.kind_at.ensures, c.payload_at.ensures) (ap (λ (v : Slot). v.value) (sym e))

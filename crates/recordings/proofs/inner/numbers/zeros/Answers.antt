@@ -12,14 +12,12 @@ loop-i-init c = (search rules, all_none _)
 pub returns-then-bytes-at-ne0 : goal.returns-then-bytes-at-ne0
 unfolding zeros_at
 returns-then-bytes-at-ne0 c =
-    let l = c.before.before.before in
-    sym (all_fails _ _ l.loop-i.i (omega arith) (ne_eqb _ _ c.if-bytes-at-ne0.true))
+    sym (all_fails _ _ c.loop-i.i (omega arith) (ne_eqb _ _ c.if-bytes-at-ne0.true))
 
 pub loop-i-preserved : goal.loop-i-preserved
 loop-i-preserved c =
-    let l = c.before.before.before in
-    (search rules, all_more _ l.loop-i.i l.loop-i.invariant.1 (eq-eqb _ _ c.if-bytes-at-ne0.false))
+    (search rules, all_more _ c.loop-i.i c.loop-i.invariant.1 (eq-eqb _ _ c.if-bytes-at-ne0.false))
 
 pub returns : goal.returns
 unfolding zeros_at
-returns c = let l = c.before in sym (all_done _ _ l.loop-i.i (omega arith) (omega arith) l.loop-i.invariant.1)
+returns c = sym (all_done _ _ c.loop-i.i (omega arith) (omega arith) c.loop-i.invariant.1)

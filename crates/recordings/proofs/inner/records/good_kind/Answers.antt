@@ -14,5 +14,4 @@ returns-then-kind-ne-WAIT c = rw (ne_eqb _ _ c.if-kind-eq-STEP.false) (and_no _ 
 pub returns : goal.returns
 unfolding good_kind
 returns c =
-    let f = c.before in
-    rw (ne_eqb _ _ f.if-kind-eq-STEP.false) (and_yes (eq-eqb _ _ f.if-kind-ne-WAIT.false) c.good_wait.ensures)
+    rw (ne_eqb _ _ c.if-kind-eq-STEP.false) (and_yes (eq-eqb _ _ c.if-kind-ne-WAIT.false) c.good_wait.ensures)

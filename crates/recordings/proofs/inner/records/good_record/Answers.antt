@@ -16,6 +16,5 @@ returns-then-not-zeros c =
 pub returns : goal.returns
 unfolding good_record
 returns c =
-    let f = c.before in
-    and_yes (eq-eqb _ _ f.if-r-ne0.false)
-    (and_yes (held f.zeros.ensures f.if-not-zeros.false-raw) c.good_kind.ensures)
+    and_yes (eq-eqb _ _ c.if-r-ne0.false)
+    (and_yes (held c.zeros.ensures c.if-not-zeros.false-raw) c.good_kind.ensures)

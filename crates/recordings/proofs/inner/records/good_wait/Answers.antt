@@ -14,5 +14,4 @@ returns-then-r-ne0-2 c = and_yes (eq-eqb _ _ c.if-r-ne0.false) (and_no _ (ne_eqb
 pub returns : goal.returns
 unfolding good_wait
 returns c =
-    let f = c.before in
-    and_yes (eq-eqb _ _ f.if-r-ne0.false) (and_yes (eq-eqb _ _ f.if-r-ne0-2.false) c.zeros.ensures)
+    and_yes (eq-eqb _ _ c.if-r-ne0.false) (and_yes (eq-eqb _ _ c.if-r-ne0-2.false) c.zeros.ensures)

@@ -19,7 +19,5 @@ put_number-requires c = simp length-set (omega arith)
 
 pub returns : goal.returns
 returns c =
-    let n = c.before.before in
-    let s = n.before.before.before in
-    n.put_number.ensures
-    ∙ four_then s.args.bytes.now s.args.at s.args.kind s.args.graph s.args.count 0 (bytes_of 4 s.args.amount)
+    c.put_number.ensures
+    ∙ four_then c.args.bytes.now c.args.at c.args.kind c.args.graph c.args.count 0 (bytes_of 4 c.args.amount)

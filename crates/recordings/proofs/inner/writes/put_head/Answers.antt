@@ -10,8 +10,5 @@ put_zeros-requires c = simp length-set (omega arith)
 
 pub returns : goal.returns
 returns c =
-    let z = c.before.before in
-    let n = z.before.before.before.before in
-    let s = n.before.before.before in
-    let l = number_then s.args.block.now 0 4 s.args.place 4 5 s.args.count (replicate 23 0) refl refl in
-    cc (z.put_zeros.ensures, n.put_number.ensures, l)
+    let l = number_then c.args.block.now 0 4 c.args.place 4 5 c.args.count (replicate 23 0) refl refl in
+    cc (c.put_zeros.ensures, c.put_number.ensures, l)

@@ -11,9 +11,6 @@ put_zeros-requires c = simp length-set (omega arith)
 
 pub returns : goal.returns
 returns c =
-    let z = c.before.before in
-    let n = z.before.before.before.before in
-    let s = n.before.before.before in
-    let at = s.args.at in
-    let l = number_then s.args.bytes.now at 8 s.args.word (at + 8) (at + 8 + 1) s.args.answer (replicate 7 0) refl (omega arith) in
-    cc (z.put_zeros.ensures, n.put_number.ensures, l)
+    let at = c.args.at in
+    let l = number_then c.args.bytes.now at 8 c.args.word (at + 8) (at + 8 + 1) c.args.answer (replicate 7 0) refl (omega arith) in
+    cc (c.put_zeros.ensures, c.put_number.ensures, l)

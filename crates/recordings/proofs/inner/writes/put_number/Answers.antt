@@ -14,17 +14,14 @@ loop-k-init c =
     (search rules, refl, rw (s, e) refl)
 
 pub loop-k-preserved : goal.loop-k-preserved
-loop-k-preserved c =
-    let l = c.before in
-    let z = l.before in (
-      omega arith,
-      simp length-set l.loop-k.invariant.1,
-      number_store l.loop-k.bytes z.args.at l.loop-k.k z.args.n l.loop-k.rest (omega arith) ∙ l.loop-k.invariant.2,
-    )
+loop-k-preserved c = (
+  omega arith,
+  simp length-set c.loop-k.invariant.1,
+  number_store c.loop-k.bytes c.args.at c.loop-k.k c.args.n c.loop-k.rest (omega arith) ∙ c.loop-k.invariant.2,
+)
 
 pub returns : goal.returns
 unfolding bytes_of
 returns c =
-    let l = c.before in
-    let e : l.args.n - l.loop-k.k ≡ 0 = omega arith in
-    rw e at l.loop-k.invariant.2
+    let e : c.args.n - c.loop-k.k ≡ 0 = omega arith in
+    rw e at c.loop-k.invariant.2

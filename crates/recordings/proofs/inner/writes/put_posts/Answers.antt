@@ -17,20 +17,16 @@ loop-j-init c =
 
 pub loop-j-preserved : goal.loop-j-preserved
 loop-j-preserved c =
-    let p = c.before.before in
-    let l = p.before.before.before in
-    let s = l.before.before.before in
-    let f = part_of (bytes_of 2) 2 s.args.posts.now in
-    let wide = length_part_of (bytes_of 2) 2 (length_bytes 2) s.args.posts.now in (
+    let f = part_of (bytes_of 2) 2 c.args.posts.now in
+    let wide = length_part_of (bytes_of 2) 2 (length_bytes 2) c.args.posts.now in (
       omega arith,
       search rules,
-      ap (λ x. sets x (s.args.at + 2 * (l.loop-j.j + 1)) (joined f (l.loop-j.j + 1) (4 - (l.loop-j.j + 1)))) p.put_post.ensures
-          ∙ (part_store f 2 wide l.loop-j.bytes s.args.at l.loop-j.j 4 (omega arith) ∙ l.loop-j.invariant.2),
+      ap (λ x. sets x (c.args.at + 2 * (c.loop-j.j + 1)) (joined f (c.loop-j.j + 1) (4 - (c.loop-j.j + 1)))) c.put_post.ensures
+          ∙ (part_store f 2 wide c.loop-j.bytes c.args.at c.loop-j.j 4 (omega arith) ∙ c.loop-j.invariant.2),
     )
 
 pub returns : goal.returns
 unfolding joined
 returns c =
-    let l = c.before in
-    let e : 4 - l.loop-j.j ≡ 0 = omega arith in
-    rw e at l.loop-j.invariant.2
+    let e : 4 - c.loop-j.j ≡ 0 = omega arith in
+    rw e at c.loop-j.invariant.2

@@ -1,11 +1,9 @@
 use mathlib.Core.List.{List}
 use Rattle.system_tables.specs.Layout.{channel_row}
 use Rattle.system_tables.specs.Words.{capacity_set}
-use Prim.Native.Nat.{ℕ, zero, suc, ◌+◌, ◌-◌, ◌*◌, ◌/◌, ◌%◌, ◌≤◌, ◌<◌}
-use mathlib.Core.Path.{◌≡◌, refl, sym, ap, ◌∙◌}
-use native.Mathlib.Omega.{arith}
-use lib.ListN.{length, get_or, set, length-set}
-use borrow.Author.Rules.{rules}
+use Prim.Native.Nat.{ℕ}
+use mathlib.Core.Path.{ap, ◌∙◌}
+use lib.ListN.{set}
 use Rattle.system_builder.proofs.inner.channels.put_channel.Goals as goal
 
 pub returns : goal.returns

@@ -8,7 +8,6 @@ use Rattle.system_builder.specs.Systems.{channel_check}
 use Rattle.system_builder.proofs.SystemLaws.{words_of}
 use mathlib.Core.Bool.{true}
 use mathlib.Core.Path.{◌≡◌, refl}
-use borrow.Author.Rules.{rules}
 use Rattle.system_builder.proofs.inner.checks.channel_check.Goals as goal
 use Rattle.system_builder.proofs.inner.checks.channel_check.Goals.{Else-not-system_formed}
 

@@ -1,15 +1,11 @@
 use mathlib.Core.Bool.{true}
 use Rattle.laws.proofs.Tests.{held, failed}
 use Rattle.laws.proofs.Ladder.{passed, stopped}
-use borrow.Author.Tests.{lt-ltb, le-ltb, le-leb, lt-leb}
+use borrow.Author.Tests.{lt-ltb, le-ltb}
 use Rattle.graph_checks.specs.Checks.{refused_by}
 use Rattle.system_builder.specs.Systems.{graph_check}
 use Rattle.system_builder.proofs.SystemLaws.{words_of}
-use Prim.Native.Nat.{ℕ, zero, suc, ◌+◌, ◌-◌, ◌*◌, ◌/◌, ◌%◌, ◌≤◌, ◌<◌}
-use mathlib.Core.Path.{◌≡◌, refl, sym, ap, ◌∙◌}
-use native.Mathlib.Omega.{arith}
-use lib.ListN.{length, get_or, set, length-set}
-use borrow.Author.Rules.{rules}
+use mathlib.Core.Path.{refl}
 use Rattle.system_builder.proofs.inner.checks.graph_check.Goals as goal
 
 pub returns-then-not-system_formed : goal.returns-then-not-system_formed

@@ -1,8 +1,4 @@
-use Prim.Native.Nat.{ℕ, ◌-◌, ◌≤◌, ◌<◌}
-use mathlib.Core.Path.{◌≡◌, refl, sym, ap, ◌∙◌}
-use mathlib.Core.Bool.{true}
-use native.Mathlib.Omega.{arith}
-use borrow.Author.Rules.{rules}
+use mathlib.Core.Path.{sym, ◌∙◌}
 use Rattle.graph_checks.proofs.CheckLaws.{then_on, then_stops}
 use Rattle.system_builder.specs.Messages.{send_check_on}
 use Rattle.system_builder.proofs.MessageLaws.{known_both}

@@ -1,11 +1,7 @@
 use Rattle.graph_builder.specs.Building.{empty_of}
 use Rattle.graph_builder.proofs.BuildingLaws.{parts}
 use Rattle.system_builder.proofs.SystemLaws.{on_part_lem}
-use Prim.Native.Nat.{ℕ, zero, suc, ◌+◌, ◌-◌, ◌*◌, ◌/◌, ◌%◌, ◌≤◌, ◌<◌}
-use mathlib.Core.Path.{◌≡◌, refl, sym, ap, ◌∙◌}
-use native.Mathlib.Omega.{arith}
-use lib.ListN.{length, get_or, set, length-set}
-use borrow.Author.Rules.{rules}
+use mathlib.Core.Path.{refl}
 use Rattle.system_builder.proofs.inner.graphs.clear_graph.Goals as goal
 
 pub returns : goal.returns

@@ -1,11 +1,5 @@
-use Rattle.graph_tables.proofs.SoundLaws.{sound}
 use Rattle.system_builder.specs.Systems.{started}
 use Rattle.system_builder.proofs.SystemLaws.{part_size}
-use Prim.Native.Nat.{ℕ, zero, suc, ◌+◌, ◌-◌, ◌*◌, ◌/◌, ◌%◌, ◌≤◌, ◌<◌}
-use mathlib.Core.Path.{◌≡◌, refl, sym, ap, ◌∙◌}
-use native.Mathlib.Omega.{arith}
-use lib.ListN.{length, get_or, set, length-set}
-use borrow.Author.Rules.{rules}
 use Rattle.system_builder.proofs.inner.graphs.is_started.Goals as goal
 
 pub process_count-requires : goal.process_count-requires

@@ -1,11 +1,10 @@
-use mathlib.Core.Path.{◌≡◌, refl}
+use mathlib.Core.Path.{refl}
 use mathlib.Core.List.{List}
 use Prim.Native.Nat.{ℕ}
 use Rattle.graph_edits.specs.Edits.{chosen}
 use Rattle.graph_builder.specs.Building.{new_send_of}
 use Rattle.graph_builder.proofs.BuildingLaws.{parts}
 use Rattle.system_builder.proofs.SystemLaws.{on_part_lem}
-use borrow.Author.Rules.{rules}
 use Rattle.system_builder.proofs.inner.graphs.send_on.Goals as goal
 
 pub returns : goal.returns

@@ -1,5 +1,4 @@
-use mathlib.Core.Path.{◌≡◌, refl}
-use borrow.Author.Rules.{rules}
+use mathlib.Core.Path.{refl}
 use Rattle.system_builder.proofs.inner.graphs.tell.Goals as goal
 
 pub set_communication-requires : goal.set_communication-requires

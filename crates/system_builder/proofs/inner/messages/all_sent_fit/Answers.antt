@@ -1,12 +1,8 @@
-use Prim.Native.Nat.{ℕ, ◌-◌, ◌≤◌, ◌<◌}
-use mathlib.Core.Path.{◌≡◌, refl, sym, ap, ◌∙◌}
-use mathlib.Core.Bool.{true}
+use mathlib.Core.Path.{sym}
 use native.Mathlib.Omega.{arith}
 use borrow.Author.Rules.{rules}
 use Rattle.laws.proofs.BelowLaws.{all_none, all_more, all_fails, all_done}
 use Rattle.laws.proofs.Tests.{held, failed}
-use Rattle.laws.specs.Below.{all_below}
-use Rattle.graph_edits.specs.Edits.{chosen}
 use Rattle.system_builder.specs.Messages.{sent_fits}
 use Rattle.system_builder.proofs.inner.messages.all_sent_fit.Goals as goal
 

@@ -1,10 +1,6 @@
-use Prim.Native.Nat.{ℕ, ◌-◌, ◌≤◌, ◌<◌}
-use mathlib.Core.Path.{◌≡◌, refl, sym, ap, ◌∙◌}
+use Prim.Native.Nat.{◌-◌, ◌≤◌}
+use mathlib.Core.Path.{◌≡◌}
 use mathlib.Core.Bool.{true}
-use native.Mathlib.Omega.{arith}
-use borrow.Author.Rules.{rules}
-use Rattle.laws.proofs.BelowLaws.{all_none, all_more, all_fails, all_done}
-use Rattle.laws.proofs.Tests.{held, failed}
 use Rattle.laws.specs.Below.{all_below}
 use Rattle.graph_edits.specs.Edits.{chosen}
 use Rattle.system_builder.specs.Messages.{sent_typed}

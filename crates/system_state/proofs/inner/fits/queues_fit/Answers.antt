@@ -10,21 +10,16 @@ loop-q-init c = (search rules, c.channel_count-q-end.ensures, all_none _)
 
 pub queue_fits-requires : goal.queue_fits-requires
 queue_fits-requires c =
-    let l = c.before in
-    let z = l.before.before.before.before in
-    (z.requires.0, z.requires.1, omega (arith, l.loop-q.invariant.1))
+    (c.requires.0, c.requires.1, omega (arith, c.loop-q.invariant.1))
 
 pub returns-then-not-queue_fits : goal.returns-then-not-queue_fits
 returns-then-not-queue_fits c =
-    let l = c.before.before.before in
-    turn_fails _ _ l.loop-q.q (omega (arith, l.loop-q.invariant.1)) c.queue_fits.ensures c.if-not-queue_fits.true-raw
+    turn_fails _ _ c.loop-q.q (omega (arith, c.loop-q.invariant.1)) c.queue_fits.ensures c.if-not-queue_fits.true-raw
 
 pub loop-q-preserved : goal.loop-q-preserved
 loop-q-preserved c =
-    let l = c.before.before.before in
-    (omega arith, l.loop-q.invariant.1, all_more _ _ l.loop-q.invariant.2 (held c.queue_fits.ensures c.if-not-queue_fits.false-raw))
+    (omega arith, c.loop-q.invariant.1, all_more _ _ c.loop-q.invariant.2 (held c.queue_fits.ensures c.if-not-queue_fits.false-raw))
 
 pub returns : goal.returns
 returns c =
-    let l = c.before in
-    turns_end _ _ l.loop-q.q (omega (arith, l.loop-q.invariant.1)) (omega (arith, l.loop-q.invariant.1)) l.loop-q.invariant.2
+    turns_end _ _ c.loop-q.q (omega (arith, c.loop-q.invariant.1)) (omega (arith, c.loop-q.invariant.1)) c.loop-q.invariant.2

@@ -5,10 +5,9 @@ use Rattle.system_state.proofs.inner.fits.run_fits.Goals as goal
 
 pub run_words_fit-requires : goal.run_words_fit-requires
 run_words_fit-requires c =
-    let z = c.before.before.before.before in
-    let g = z.args.g in (
-      rw c.graph_at.ensures (z.requires.0.graph g z.requires.2),
-      rw c.run_at.ensures (run_words_lem z.args.s.now z.requires.1 g (omega (arith, z.requires.2, z.requires.0.graphs))),
+    let g = c.args.g in (
+      rw c.graph_at.ensures (c.requires.0.graph g c.requires.2),
+      rw c.run_at.ensures (run_words_lem c.args.s.now c.requires.1 g (omega (arith, c.requires.2, c.requires.0.graphs))),
     )
 
 pub returns : goal.returns

@@ -10,21 +10,16 @@ loop-g-init c = (search rules, c.graph_count-g-end.ensures, all_none _)
 
 pub run_fits-requires : goal.run_fits-requires
 run_fits-requires c =
-    let l = c.before in
-    let z = l.before.before.before.before in
-    (z.requires.0, z.requires.1, omega (arith, l.loop-g.invariant.1))
+    (c.requires.0, c.requires.1, omega (arith, c.loop-g.invariant.1))
 
 pub returns-then-not-run_fits : goal.returns-then-not-run_fits
 returns-then-not-run_fits c =
-    let l = c.before.before.before in
-    turn_fails _ _ l.loop-g.g (omega (arith, l.loop-g.invariant.1)) c.run_fits.ensures c.if-not-run_fits.true-raw
+    turn_fails _ _ c.loop-g.g (omega (arith, c.loop-g.invariant.1)) c.run_fits.ensures c.if-not-run_fits.true-raw
 
 pub loop-g-preserved : goal.loop-g-preserved
 loop-g-preserved c =
-    let l = c.before.before.before in
-    (omega arith, l.loop-g.invariant.1, all_more _ _ l.loop-g.invariant.2 (held c.run_fits.ensures c.if-not-run_fits.false-raw))
+    (omega arith, c.loop-g.invariant.1, all_more _ _ c.loop-g.invariant.2 (held c.run_fits.ensures c.if-not-run_fits.false-raw))
 
 pub returns : goal.returns
 returns c =
-    let l = c.before in
-    turns_end _ _ l.loop-g.g (omega (arith, l.loop-g.invariant.1)) (omega (arith, l.loop-g.invariant.1)) l.loop-g.invariant.2
+    turns_end _ _ c.loop-g.g (omega (arith, c.loop-g.invariant.1)) (omega (arith, c.loop-g.invariant.1)) c.loop-g.invariant.2

@@ -20,23 +20,16 @@ returns-then-s-ne-WORDS c = and_no _ (ne_eqb _ _ c.if-s-ne-WORDS.true)
 pub returns-then-time_of : goal.returns-then-time_of
 unfolding state_fits
 returns-then-time_of c =
-    let e = c.before.before in
-    let z = e.before.before.before in
-    and_yes (eq-eqb _ _ e.if-s-ne-WORDS.false) (and_no _ (time_fails z.args.s.now (omega (arith, c.time_of.ensures))))
+    and_yes (eq-eqb _ _ c.if-s-ne-WORDS.false) (and_no _ (time_fails c.args.s.now (omega (arith, c.time_of.ensures))))
 
 pub returns-then-not-runs_fit : goal.returns-then-not-runs_fit
 unfolding state_fits
 returns-then-not-runs_fit c =
-    let r = c.before in
-    let d = r.before in
-    and_yes (eq-eqb _ _ d.if-s-ne-WORDS.false)
-    (and_yes (in_time (goal.at.returns-then-not-runs_fit c).Else-time_of) (and_no _ (failed r.runs_fit.ensures c.if-not-runs_fit.true-raw)))
+    and_yes (eq-eqb _ _ c.if-s-ne-WORDS.false)
+    (and_yes (in_time (goal.at.returns-then-not-runs_fit c).Else-time_of) (and_no _ (failed c.runs_fit.ensures c.if-not-runs_fit.true-raw)))
 
 pub returns : goal.returns
 unfolding state_fits
 returns c =
-    let x = c.before in
-    let r = x.before in
-    let d = r.before in
-    and_yes (eq-eqb _ _ d.if-s-ne-WORDS.false)
-    (and_yes (in_time (goal.at.returns c).Else-time_of) (and_yes (held r.runs_fit.ensures x.if-not-runs_fit.false-raw) c.queues_fit.ensures))
+    and_yes (eq-eqb _ _ c.if-s-ne-WORDS.false)
+    (and_yes (in_time (goal.at.returns c).Else-time_of) (and_yes (held c.runs_fit.ensures c.if-not-runs_fit.false-raw) c.queues_fit.ensures))

@@ -13,11 +13,9 @@ emptied_at s m a = take a s ++ (emptied (take m (drop a s)) ++ drop m (drop a s)
 
 pub returns : goal.returns
 returns c =
-    let w = c.before.before in
-    let b = w.before.before in
-    let s = b.args.s.now in
-    let a = b.queue_start-a.result in
+    let s = c.args.s.now in
+    let a = c.queue_start-a.result in
     let e : a + queue_words - a ≡ queue_words = omega arith in
-    ap (λ (x : List ℕ). take a s ++ (x ++ drop (a + queue_words - a) (drop a s))) w.empty.ensures
+    ap (λ (x : List ℕ). take a s ++ (x ++ drop (a + queue_words - a) (drop a s))) c.empty.ensures
     ∙ ap (λ (m : ℕ). emptied_at s m a) e
-    ∙ ap (emptied_at s queue_words) b.queue_start-a.ensures
+    ∙ ap (emptied_at s queue_words) c.queue_start-a.ensures

@@ -13,26 +13,19 @@ loop-q-init c = (search rules, c.channel_count-q-end.ensures, c.requires.1, refl
 
 pub fresh_queue_at-requires : goal.fresh_queue_at-requires
 fresh_queue_at-requires c =
-    let l = c.before.before in
-    let z = l.before.before.before.before in
-    (l.loop-q.invariant.2, omega (arith, l.loop-q.invariant.1, z.requires.0.channels))
+    (c.loop-q.invariant.2, omega (arith, c.loop-q.invariant.1, c.requires.0.channels))
 
 pub loop-q-preserved : goal.loop-q-preserved
 unfolding fresh_queues_below
-loop-q-preserved c =
-    let f = c.before.before in
-    let l = f.before.before.before in
-    let z = l.before.before.before.before in (
-      omega arith,
-      l.loop-q.invariant.1,
-      rw f.fresh_queue_at.ensures
-          (fresh_queue_words l.loop-q.s l.loop-q.invariant.2 l.loop-q.q (omega (arith, l.loop-q.invariant.1, z.requires.0.channels))),
-      rw add-one (cc (l.loop-q.invariant.3, f.fresh_queue_at.ensures)),
-    )
+loop-q-preserved c = (
+  omega arith,
+  c.loop-q.invariant.1,
+  rw c.fresh_queue_at.ensures
+      (fresh_queue_words c.loop-q.s c.loop-q.invariant.2 c.loop-q.q (omega (arith, c.loop-q.invariant.1, c.requires.0.channels))),
+  rw add-one (cc (c.loop-q.invariant.3, c.fresh_queue_at.ensures)),
+)
 
 pub returns : goal.returns
 returns c =
-    let l = c.before in
-    let z = l.before.before.before.before in
-    let e : l.loop-q.q ≡ channel_count z.args.t.now = omega (arith, l.loop-q.invariant.1) in
-    l.loop-q.invariant.3 ∙ ap (fresh_queues_below z.args.s.now) e
+    let e : c.loop-q.q ≡ channel_count c.args.t.now = omega (arith, c.loop-q.invariant.1) in
+    c.loop-q.invariant.3 ∙ ap (fresh_queues_below c.args.s.now) e

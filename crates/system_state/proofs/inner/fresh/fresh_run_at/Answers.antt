@@ -15,20 +15,15 @@ started_at G s m a = take a s ++ (fresh_words G (take m (drop a s)) ++ drop m (d
 
 pub fresh_words-requires : goal.fresh_words-requires
 fresh_words-requires c =
-    let z = c.before.before.before.before.before in
-    (rw c.graph_at.ensures (z.requires.0.graph z.args.g z.requires.2), search rules)
+    (rw c.graph_at.ensures (c.requires.0.graph c.args.g c.requires.2), search rules)
 
 pub returns : goal.returns
 returns c =
-    let w = c.before.before in
-    let h = w.before.before in
-    let b = h.before in
-    let z = b.before.before.before in
-    let s = z.args.s.now in
-    let part = graph_part z.args.t.now z.args.g in
-    let a = b.run_start-a.result in
+    let s = c.args.s.now in
+    let part = graph_part c.args.t.now c.args.g in
+    let a = c.run_start-a.result in
     let e : a + run_words - a ≡ run_words = omega arith in
-    ap (λ (x : List ℕ). take a s ++ (x ++ drop (a + run_words - a) (drop a s))) w.fresh_words.ensures
-    ∙ ap (λ (G : List ℕ). started_at G s (a + run_words - a) a) h.graph_at.ensures
+    ap (λ (x : List ℕ). take a s ++ (x ++ drop (a + run_words - a) (drop a s))) c.fresh_words.ensures
+    ∙ ap (λ (G : List ℕ). started_at G s (a + run_words - a) a) c.graph_at.ensures
     ∙ ap (λ (m : ℕ). started_at part s m a) e
-    ∙ ap (started_at part s run_words) b.run_start-a.ensures
+    ∙ ap (started_at part s run_words) c.run_start-a.ensures

@@ -13,26 +13,19 @@ loop-g-init c = (search rules, c.graph_count-g-end.ensures, c.requires.1, refl)
 
 pub fresh_run_at-requires : goal.fresh_run_at-requires
 fresh_run_at-requires c =
-    let l = c.before.before in
-    let z = l.before.before.before.before in
-    (z.requires.0, l.loop-g.invariant.2, omega (arith, l.loop-g.invariant.1))
+    (c.requires.0, c.loop-g.invariant.2, omega (arith, c.loop-g.invariant.1))
 
 pub loop-g-preserved : goal.loop-g-preserved
 unfolding fresh_runs_below
-loop-g-preserved c =
-    let f = c.before.before in
-    let l = f.before.before.before in
-    let z = l.before.before.before.before in (
-      omega arith,
-      l.loop-g.invariant.1,
-      rw f.fresh_run_at.ensures
-          (fresh_run_words z.args.t.now z.requires.0 l.loop-g.s l.loop-g.invariant.2 l.loop-g.g (omega (arith, l.loop-g.invariant.1))),
-      rw add-one (cc (l.loop-g.invariant.3, f.fresh_run_at.ensures)),
-    )
+loop-g-preserved c = (
+  omega arith,
+  c.loop-g.invariant.1,
+  rw c.fresh_run_at.ensures
+      (fresh_run_words c.args.t.now c.requires.0 c.loop-g.s c.loop-g.invariant.2 c.loop-g.g (omega (arith, c.loop-g.invariant.1))),
+  rw add-one (cc (c.loop-g.invariant.3, c.fresh_run_at.ensures)),
+)
 
 pub returns : goal.returns
 returns c =
-    let l = c.before in
-    let z = l.before.before.before.before in
-    let e : l.loop-g.g ≡ graph_count z.args.t.now = omega (arith, l.loop-g.invariant.1) in
-    l.loop-g.invariant.3 ∙ ap (fresh_runs_below z.args.t.now z.args.s.now) e
+    let e : c.loop-g.g ≡ graph_count c.args.t.now = omega (arith, c.loop-g.invariant.1) in
+    c.loop-g.invariant.3 ∙ ap (fresh_runs_below c.args.t.now c.args.s.now) e

@@ -8,10 +8,7 @@ use Rattle.system_state.proofs.inner.fresh.fresh_state.Goals as goal
 pub returns : goal.returns
 unfolding fresh_state
 returns c =
-    let q = c.before.before in
-    let r = q.before.before.before.before in
-    let w = r.before.before.before.before in
-    let t = w.args.t.now in
-    q.fresh_queues.ensures
-    ∙ ap (λ (x : List ℕ). fresh_queues_below x (channel_count t)) (r.fresh_runs.ensures
-    ∙ ap (λ (x : List ℕ). fresh_runs_below t x (graph_count t)) w.set_time.ensures)
+    let t = c.args.t.now in
+    c.fresh_queues.ensures
+    ∙ ap (λ (x : List ℕ). fresh_queues_below x (channel_count t)) (c.fresh_runs.ensures
+    ∙ ap (λ (x : List ℕ). fresh_runs_below t x (graph_count t)) c.set_time.ensures)

@@ -7,8 +7,7 @@ use Rattle.system_state.proofs.inner.words.queue_at.Goals as goal
 
 pub returns : goal.returns
 returns c =
-    let b = c.before in
-    let s = b.args.s.now in
-    let a = b.queue_start-a.result in
+    let s = c.args.s.now in
+    let a = c.queue_start-a.result in
     let e : a + queue_words - a ≡ queue_words = omega arith in
-    ap (λ (k : ℕ). take k (drop a s)) e ∙ ap (λ (k : ℕ). take queue_words (drop k s)) b.queue_start-a.ensures
+    ap (λ (k : ℕ). take k (drop a s)) e ∙ ap (λ (k : ℕ). take queue_words (drop k s)) c.queue_start-a.ensures

@@ -7,8 +7,7 @@ use Rattle.system_state.proofs.inner.words.run_at.Goals as goal
 
 pub returns : goal.returns
 returns c =
-    let b = c.before in
-    let s = b.args.s.now in
-    let a = b.run_start-a.result in
+    let s = c.args.s.now in
+    let a = c.run_start-a.result in
     let e : a + run_words - a ≡ run_words = omega arith in
-    ap (λ (k : ℕ). take k (drop a s)) e ∙ ap (λ (k : ℕ). take run_words (drop k s)) b.run_start-a.ensures
+    ap (λ (k : ℕ). take k (drop a s)) e ∙ ap (λ (k : ℕ). take run_words (drop k s)) c.run_start-a.ensures

@@ -11,12 +11,9 @@ returns-then-slots-eq0 c = rw (eq-eqb _ _ (rw c.slots_for-slots.ensures at c.if-
 pub filled_to-requires : goal.filled_to-requires
 unfolding slots_for
 filled_to-requires c =
-    let n = c.before in
-    (omega (arith, n.slots_for-slots.ensures, c.if-slots-eq0.false), omega (arith, n.slots_for-slots.ensures, n.requires))
+    (omega (arith, c.slots_for-slots.ensures, c.if-slots-eq0.false), omega (arith, c.slots_for-slots.ensures, c.requires))
 
 pub returns : goal.returns
 unfolding ceiling
 returns c =
-    let e = c.before in
-    let n = e.before in
-    rw (ne_eqb _ _ (rw n.slots_for-slots.ensures at e.if-slots-eq0.false)) (rw n.slots_for-slots.ensures at c.filled_to.ensures)
+    rw (ne_eqb _ _ (rw c.slots_for-slots.ensures at c.if-slots-eq0.false)) (rw c.slots_for-slots.ensures at c.filled_to.ensures)

@@ -4,20 +4,15 @@ use Rattle.system_tables.proofs.inner.words.capacity_of.Goals as goal
 
 pub overflow_cast-result : goal.overflow_cast-result
 overflow_cast-result c =
-    let s = c.before.before in
-    omega (arith, c.bound_of.ensures, s.requires.2 (rw s.sort_of-sort.ensures at c.if-sort-eq-BOUNDED.true))
+    omega (arith, c.bound_of.ensures, c.requires.2 (rw c.sort_of-sort.ensures at c.if-sort-eq-BOUNDED.true))
 
 pub returns-then-sort-eq-BOUNDED : goal.returns-then-sort-eq-BOUNDED
 returns-then-sort-eq-BOUNDED c = rw (eq-eqb _ _ (rw c.sort_of-sort.ensures at c.if-sort-eq-BOUNDED.true), c.bound_of.ensures)
 
 pub returns-then-sort-eq-UNBOUNDED : goal.returns-then-sort-eq-UNBOUNDED
 returns-then-sort-eq-UNBOUNDED c =
-    let a = c.before in
-    let s = a.before in
-    rw (ne_eqb _ _ (rw s.sort_of-sort.ensures at a.if-sort-eq-BOUNDED.false), eq-eqb _ _ (rw s.sort_of-sort.ensures at c.if-sort-eq-UNBOUNDED.true))
+    rw (ne_eqb _ _ (rw c.sort_of-sort.ensures at c.if-sort-eq-BOUNDED.false), eq-eqb _ _ (rw c.sort_of-sort.ensures at c.if-sort-eq-UNBOUNDED.true))
 
 pub returns : goal.returns
 returns c =
-    let a = c.before in
-    let s = a.before in
-    rw (ne_eqb _ _ (rw s.sort_of-sort.ensures at a.if-sort-eq-BOUNDED.false), ne_eqb _ _ (rw s.sort_of-sort.ensures at c.if-sort-eq-UNBOUNDED.false))
+    rw (ne_eqb _ _ (rw c.sort_of-sort.ensures at c.if-sort-eq-BOUNDED.false), ne_eqb _ _ (rw c.sort_of-sort.ensures at c.if-sort-eq-UNBOUNDED.false))

@@ -6,5 +6,4 @@ returns-then-w-eq-NO_COMMUNICATION c = rw (eq-eqb _ _ c.if-w-eq-NO_COMMUNICATION
 
 pub returns : goal.returns
 returns c =
-    let m = c.before in
-    rw (ne_eqb _ _ m.if-w-eq-NO_COMMUNICATION.false, m.message_of-m.ensures, m.message_part.ensures, c.channel_part-q.ensures)
+    rw (ne_eqb _ _ c.if-w-eq-NO_COMMUNICATION.false, c.message_of-m.ensures, c.message_part.ensures, c.channel_part-q.ensures)

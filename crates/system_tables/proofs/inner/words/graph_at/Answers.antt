@@ -7,8 +7,7 @@ use Rattle.system_tables.proofs.inner.words.graph_at.Goals as goal
 
 pub returns : goal.returns
 returns c =
-    let s = c.before in
-    let t = s.args.t.now in
-    let a = s.graph_start-a.result in
+    let t = c.args.t.now in
+    let a = c.graph_start-a.result in
     let e : a + table_words - a ≡ table_words = omega arith in
-    ap (λ (k : ℕ). take k (drop a t)) e ∙ ap (λ (k : ℕ). take table_words (drop k t)) s.graph_start-a.ensures
+    ap (λ (k : ℕ). take k (drop a t)) e ∙ ap (λ (k : ℕ). take table_words (drop k t)) c.graph_start-a.ensures

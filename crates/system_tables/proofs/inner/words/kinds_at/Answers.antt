@@ -7,10 +7,8 @@ use Rattle.system_tables.proofs.inner.words.kinds_at.Goals as goal
 
 pub returns : goal.returns
 returns c =
-    let w = c.before in
-    let s = w.before.before in
-    let t = s.args.t.now in
-    let q = s.args.q in
-    let n = w.width_of.result in
+    let t = c.args.t.now in
+    let q = c.args.q in
+    let n = c.width_of.result in
     let e : channel_kind_cell q 0 + n - channel_kind_cell q 0 ≡ n = omega arith in
-    ap (λ (k : ℕ). take k (drop (channel_kind_cell q 0) t)) (e ∙ w.width_of.ensures)
+    ap (λ (k : ℕ). take k (drop (channel_kind_cell q 0) t)) (e ∙ c.width_of.ensures)
