@@ -12,7 +12,6 @@ use Rattle.laws.proofs.Ladder.{passed, stopped, rung}
 use Rattle.laws.proofs.Tests.{never}
 use Rattle.graph_tables.specs.Refusals.{refusal}
 use Rattle.graph_tables.specs.declared.answers.Done.{Done}
-use Rattle.graph_tables.specs.declared.answers.Done.TheVariants as Done
 use Rattle.graph_tables.specs.declared.refusals.Refusal.{Refusal}
 use Rattle.graph_checks.specs.Checks.{refused_by}
 use Rattle.run_steps.specs.Messages.{no_message}
@@ -45,7 +44,6 @@ use Rattle.channel_system.specs.Facts.{Speaks}
 use Rattle.channel_system.specs.Told.{waited_number, AskedRightly, GuardFalse, run_by, event_by}
 use Rattle.channel_system.specs.declared.answers.Event.{Event}
 use Rattle.channel_system.specs.declared.answers.Waited.{Waited}
-use Rattle.channel_system.specs.declared.answers.Waited.TheVariants as Waited
 use Rattle.channel_system.proofs.FittingLaws.{fits_table_lem, fits_state}
 use Rattle.channel_system.proofs.SpokenLaws.{spoken_some}
 use Rattle.channel_system.proofs.StepCases.{sent_on, SendFound, InEach, step_cases}

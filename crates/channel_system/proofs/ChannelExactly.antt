@@ -16,7 +16,6 @@ use Rattle.graph_tables.specs.Sizes.{word32}
 use Rattle.graph_tables.specs.Words.{action_count}
 use Rattle.graph_tables.specs.Answers.{done_number}
 use Rattle.graph_tables.specs.declared.answers.Done.{Done}
-use Rattle.graph_tables.specs.declared.answers.Done.TheVariants as Done
 use Rattle.graph_checks.specs.Checks.{refused_by}
 use Rattle.program_graph.specs.Facts.{Ok, Not}
 use Rattle.program_graph.proofs.RunLaws.{chosen}

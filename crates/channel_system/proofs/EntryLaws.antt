@@ -8,10 +8,8 @@ use native.Mathlib.Numerals.{add-one}
 use native.Mathlib.Omega.{arith}
 use Rattle.graph_tables.specs.declared.answers.Entry.{Entry}
 use Rattle.run_steps.specs.Listing.{seek}
-use Rattle.run_steps.specs.declared.inner.listing.Sought.{Sought}
 use Rattle.run_steps.specs.declared.inner.listing.Sought.TheVariants.{Found, Left}
 use Rattle.channel_system.specs.Listing.{Possible, of_graph, listed_on, listed_below, entry_at}
-use Rattle.channel_system.specs.declared.answers.Listed.{Listed}
 use Rattle.channel_system.specs.declared.answers.Listed.TheVariants.{At, End}
 
 -- entry k of two lists in a row is entry m of the second

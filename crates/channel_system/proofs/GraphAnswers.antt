@@ -22,7 +22,6 @@ use Rattle.graph_tables.specs.Words.{action_count, action_kind, effect_count, ef
 use Rattle.graph_tables.specs.Sound.{Sound}
 use Rattle.graph_tables.specs.Messages.{is_send, is_receive}
 use Rattle.graph_tables.specs.declared.answers.Done.{Done}
-use Rattle.graph_tables.specs.declared.answers.Done.TheVariants as Done
 use Rattle.graph_tables.specs.declared.handed.Message.{Message}
 use Rattle.graph_checks.specs.Checks.{refused_by}
 use Rattle.run_steps.specs.Steps.{ready_of, clocks_after, effected_of, post_known}
@@ -161,23 +160,28 @@ module _ (t : List ℕ) (a : ℕ) (vars : List Slot) (s : Speech) where
   voiced_so (Known x) n rest b k = refl
   voiced_so NoValue n rest b k = let z : ◌≡◌ {A = ℕ} 0 1 = cc k.1 in absurd (omega arith)
 
+  -- what is left of the word after an expression
+  abbrev rest_at : ℕ → ℕ
+  rest_at n = (turn t a vars s n).rest
+
   -- an expression is evaluated where those before it had a value
   speaks : (n : ℕ) → (spoken_below t a vars s n).fits ≡ true
       → (spoken_below t a vars s (suc n)).fits
-      ≡ (voiced (spoken_below t a vars s n) n (turn t a vars s n).value (turn t a vars s n).rest).fits
+      ≡ (voiced (spoken_below t a vars s n) n (turn t a vars s n).value (rest_at n)).fits
   unfolding spoken_below
   speaks n h = ap (λ (r : Speech). r.fits) (next_runs vars (spoken_below t a vars s n) n (effect_items t a n) h)
 
   said_below : (n : ℕ) → (spoken_below t a vars s n).fits ≡ true → (e : ℕ) → e < n → Valued (turn t a vars s e).value
   said_below n h e l =
-      voiced_from _ _ _ _ (sym (speaks e (spoken_fit t a vars s n e (omega arith) h)) ∙ spoken_fit t a vars s n (suc e) l h)
+      voiced_from (turn t a vars s e).value e (rest_at e) (spoken_below t a vars s e)
+      (sym (speaks e (spoken_fit t a vars s n e (omega arith) h)) ∙ spoken_fit t a vars s n (suc e) l h)
 
   all_said : (n : ℕ) → s.fits ≡ true → ((e : ℕ) → e < n → Valued (turn t a vars s e).value) → (spoken_below t a vars s n).fits ≡ true
   unfolding spoken_below
   all_said zero f h = f
   all_said (suc n) f h =
       let k = all_said n f (λ e l. h e (omega arith)) in
-      speaks n k ∙ voiced_so _ _ _ _ (h n (omega arith)) ∙ k
+      speaks n k ∙ voiced_so (turn t a vars s n).value n (rest_at n) (spoken_below t a vars s n) (h n (omega arith)) ∙ k
 
 -- the message of a send fits exactly when each of its expressions has a value in its turn
 pub said_exactly : (t : List ℕ) (a : ℕ) (vars : List Slot) (word : ℕ) → ((spoken_of t a vars word).fits ≡ true) ↔ AllSaid t a vars word

@@ -1,23 +1,21 @@
 -- The clocks of a graph that are moved: the state is one of the table's, and the runs of the other graphs are as they were, so that
 -- each test that was made before the first clock was moved still speaks of the run whose clocks are moved.
 use Prim.Native.Nat.{ℕ, zero, suc, ◌+◌, ◌<◌, ◌≤◌}
-use mathlib.Core.Path.{◌≡◌, refl, sym, ap, subst, ◌∙◌}
+use mathlib.Core.Path.{◌≡◌, refl, ap, ◌∙◌}
 use mathlib.Core.Bool.{true}
 use mathlib.Core.List.{List}
 use mathlib.Core.Logic.{⊎_elim}
 use native.Mathlib.Nat.{le_of_suc-le-suc, not-suc-le-zero, eq-or-lt_of_le}
 use native.Mathlib.Omega.{arith}
 use borrow.Author.Tests.{leb-true}
-use Rattle.laws.specs.Below.{all_below}
 use Rattle.laws.proofs.BelowLaws.{and_first, and_rest, all_at}
 use Rattle.graph_tables.specs.Sizes.{last_time}
-use Rattle.graph_tables.specs.RunWords.{clocks_in, run_clocks, RunWords}
+use Rattle.graph_tables.specs.RunWords.{clocks_in, run_clocks}
 use Rattle.graph_tables.specs.Sound.{Sound}
 use Rattle.run_steps.proofs.StepLaws.{shifted_length}
 use Rattle.program_graph.specs.Running.{wait_fits, later}
 use Rattle.program_graph.specs.Inner.{run_at, RunOf, Leaves}
 use Rattle.program_graph.specs.Written.{words_of}
-use Rattle.program_graph.specs.Fits.{RunKept}
 use Rattle.program_graph.proofs.WordLaws.{times_length, times_anew}
 use Rattle.program_graph.proofs.LeaveLaws.{leaves_later}
 use Rattle.program_graph.proofs.WrittenLaws.{words_leave}
@@ -25,7 +23,7 @@ use Rattle.program_graph.proofs.KeptLaws.{wait_kept}
 use Rattle.system_tables.specs.Sizes.{graph_room, channel_room}
 use Rattle.system_tables.specs.Words.{graph_count, graph_part}
 use Rattle.system_tables.specs.Sound.{SystemSound}
-use Rattle.system_state.specs.Words.{time_in, run_part, with_run, queue_part}
+use Rattle.system_state.specs.Words.{time_in, run_part, queue_part}
 use Rattle.system_state.specs.Fits.{StateSound}
 use Rattle.system_state.proofs.WithLaws.{with_run_here, with_run_run, with_run_time, with_run_queue, with_run_sound}
 use Rattle.system_state.proofs.WithLaws.{with_time_time, with_time_run, with_time_queue, with_time_sound}

@@ -26,7 +26,6 @@ use Rattle.channel_system.specs.Steps.{system_fits, run_of}
 use Rattle.channel_system.specs.Listing.{listed_on, possible_on, nosync_on, Possible, listed_below, entry_at, possible_of}
 use Rattle.channel_system.specs.Rows.{OpenOn, SystemRow, OpenIn, possible_for, NotAfter}
 use Rattle.channel_system.specs.declared.answers.Listed.{Listed}
-use Rattle.channel_system.specs.declared.answers.Listed.TheVariants as Listed
 use Rattle.channel_system.proofs.ListedExactly.{graph_lists, system_lists, graph_ascends, system_ascends}
 
 -- ---- an answer that names an entry
@@ -53,6 +52,7 @@ at_in p (x ∷ ps) zero h = Memᴰ.head (sym (ap (possible_in x) h))
 at_in p (x ∷ ps) (suc k) h = Memᴰ.tail (at_in p ps k h)
 
 in_at : (p : Possible) (ps : List Possible) → Memᴰ p ps → (k : ℕ) × (entry_at ps k ≡ told p)
+in_at p [] x' = elim x' [ ]
 in_at p (x ∷ ps) (Memᴰ.head q) = (zero, ap told (sym q))
 in_at p (x ∷ ps) (Memᴰ.tail m) = let r = in_at p ps m in (suc r.0, r.1)
 

@@ -28,7 +28,7 @@ use Rattle.system_tables.specs.declared.ids.Communication.TheVariants.{Plain, On
 use Rattle.system_tables.specs.declared.ids.Message as Kind
 use Rattle.system_tables.specs.declared.ids.Message.TheVariants.{Send, Receive, ProbeEmptyQueue, ProbeFullQueue}
 use Rattle.channel_system.specs.Steps.{locations_of, few_posts, few_of, run_of, ran_to}
-use Rattle.channel_system.specs.Steps.{sent_into, oldest_in, taken_from, Moved, no_event, event_of}
+use Rattle.channel_system.specs.Steps.{sent_into, oldest_in, taken_from, no_event, event_of}
 use Rattle.channel_system.specs.Steps.{told_if, plain_step, send_step, receive_step}
 use Rattle.channel_system.specs.Steps.{probe_step, message_step, open_if, channel_answer, step_as}
 

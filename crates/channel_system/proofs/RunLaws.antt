@@ -1,6 +1,6 @@
 -- Laws of a graph's own calls on its run in a state: what they leave of the whole state.
 use Prim.Native.Nat.{ℕ, ◌≤◌, ◌<◌}
-use mathlib.Core.Path.{◌≡◌, refl, sym, ap, ◌∙◌, subst}
+use mathlib.Core.Path.{◌≡◌, sym, ap, ◌∙◌, subst}
 use mathlib.Core.List.{List, ◌++◌}
 use lib.ListN.{take, drop}
 use native.Mathlib.Omega.{arith}
@@ -8,8 +8,6 @@ use Rattle.graph_tables.specs.Sizes.{process_room}
 use Rattle.graph_tables.specs.RunWords.{run_words}
 use Rattle.graph_tables.specs.Sound.{Sound}
 use Rattle.graph_tables.specs.declared.answers.Done.{Done}
-use Rattle.graph_tables.specs.declared.answers.Done.TheVariants as Done
-use Rattle.graph_tables.specs.declared.refusals.Refusal.{Refusal}
 use Rattle.graph_tables.specs.declared.handed.Message.{Message}
 use Rattle.program_graph.specs.declared.record.ProgramGraphRun.{ProgramGraphRun}
 use Rattle.program_graph.specs.Facts.{Ok}
@@ -22,8 +20,8 @@ use Rattle.program_graph.proofs.AnswerLaws.{not_ok}
 use Rattle.program_graph.proofs.LeaveLaws.{processes_same}
 use Rattle.program_graph.proofs.RunTheorems.{step_refused, sent_refused, received_refused}
 use Rattle.program_graph.proofs.WrittenLaws.{leaves_words, words_back}
-use Rattle.system_tables.specs.Sizes.{graph_room, channel_room}
-use Rattle.system_tables.specs.Words.{graph_count, graph_part}
+use Rattle.system_tables.specs.Sizes.{graph_room}
+use Rattle.system_tables.specs.Words.{graph_part}
 use Rattle.system_state.specs.Layout.{run_start}
 use Rattle.system_state.specs.Words.{StateWords, run_part, with_run, queue_part}
 use Rattle.system_state.proofs.WithLaws.{with_run_back, with_run_words, with_run_queue}

@@ -17,7 +17,6 @@ use Rattle.graph_tables.specs.RunWords.{RunWords}
 use Rattle.graph_tables.specs.Messages.{message_count}
 use Rattle.graph_tables.specs.declared.refusals.Refusal.{Refusal}
 use Rattle.graph_tables.specs.declared.answers.Done.{Done}
-use Rattle.graph_tables.specs.declared.answers.Done.TheVariants as Done
 use Rattle.graph_tables.proofs.NumberLaws.{above_ok}
 use Rattle.program_graph.specs.Fits.{RunKept}
 use Rattle.program_graph.specs.Inner.{run_at, Leaves}

@@ -1,6 +1,6 @@
 -- What an action is to the system, by its number.
 use Prim.Native.Nat.{ℕ, ◌≤◌, ◌<◌}
-use mathlib.Core.Path.{◌≡◌, refl, sym, ◌∙◌}
+use mathlib.Core.Path.{◌≡◌, refl}
 use mathlib.Core.Bool.{Bool, true, false, cond}
 use mathlib.Core.List.{List}
 use native.Mathlib.Decide.{ℕ_discrete}
@@ -14,7 +14,6 @@ use Rattle.system_tables.specs.Words.{graph_count, channel_count, graph_part, co
 use Rattle.system_tables.specs.Sound.{SystemSound}
 use Rattle.system_tables.specs.declared.ids.Channel.{Channel}
 use Rattle.system_tables.specs.declared.ids.Message.{Message}
-use Rattle.system_tables.specs.declared.ids.Communication.{Communication}
 use Rattle.system_tables.specs.declared.ids.Communication.TheVariants.{Plain, On}
 use Rattle.system_tables.proofs.CommunicationLaws.{message_says}
 use Rattle.channel_system.specs.Steps.{spoken_by}

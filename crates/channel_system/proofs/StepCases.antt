@@ -14,7 +14,6 @@ use Rattle.graph_tables.specs.Words.{action_count, epsilon}
 use Rattle.graph_tables.specs.Refusals.{number_of, refusal}
 use Rattle.graph_tables.specs.declared.refusals.Refusal.{Refusal}
 use Rattle.graph_tables.specs.declared.answers.Done.{Done}
-use Rattle.graph_tables.specs.declared.answers.Done.TheVariants as Done
 use Rattle.graph_tables.specs.declared.handed.Message as Values
 use Rattle.run_steps.specs.Messages.{no_message}
 use Rattle.program_graph.specs.declared.record.ProgramGraphRun.{ProgramGraphRun}

@@ -18,7 +18,6 @@ use Rattle.graph_tables.specs.Words.{action_count, action_kind, epsilon}
 use Rattle.graph_tables.specs.Messages.{message_count}
 use Rattle.graph_tables.proofs.MessageLaws.{plain_kind_lem}
 use Rattle.graph_tables.specs.declared.answers.Done.{Done}
-use Rattle.graph_tables.specs.declared.answers.Done.TheVariants as Done
 use Rattle.graph_checks.specs.Checks.{refused_by}
 use Rattle.run_steps.specs.Steps.{ready_of, clocks_after, effected_of, post_known}
 use Rattle.run_steps.specs.Messages.{spoken_of}

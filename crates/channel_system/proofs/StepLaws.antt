@@ -10,30 +10,27 @@ use Rattle.laws.specs.Ladder.{unless}
 use Rattle.graph_tables.specs.Sizes.{message_room}
 use Rattle.graph_tables.specs.Words.{action_count}
 use Rattle.graph_tables.specs.declared.answers.Done.{Done}
-use Rattle.graph_tables.specs.declared.answers.Done.TheVariants as Done
 use Rattle.graph_tables.specs.declared.refusals.Refusal.{Refusal}
 use Rattle.graph_tables.specs.declared.handed.Message as Values
 use Rattle.graph_checks.specs.Checks.{refused_by}
 use Rattle.program_graph.specs.declared.record.ProgramGraphRun.{ProgramGraphRun}
-use Rattle.program_graph.specs.Messaging.{sent_of, received_of}
+use Rattle.program_graph.specs.Messaging.{sent_of}
 use Rattle.program_graph.proofs.AnswerLaws.{is_ok}
 use Rattle.program_graph.proofs.SpokenLaws.{send_says}
 use Rattle.queues.specs.Queues.{stored_of, slots_for, Counted}
-use Rattle.system_tables.specs.Words.{graph_count, channel_count, width_of, graph_part, communication_of}
-use Rattle.system_tables.specs.Sound.{SystemSound}
+use Rattle.system_tables.specs.Words.{channel_count, width_of, graph_part, communication_of}
 use Rattle.system_tables.proofs.CommunicationLaws.{message_says}
 use Rattle.system_tables.specs.declared.ids.Channel.{Channel}
 use Rattle.system_tables.specs.declared.ids.Message.{Message}
-use Rattle.system_tables.specs.declared.ids.Message.TheVariants.{Send, Receive, ProbeEmptyQueue, ProbeFullQueue}
-use Rattle.system_tables.specs.declared.ids.Communication.{Communication}
+use Rattle.system_tables.specs.declared.ids.Message.TheVariants.{Send}
 use Rattle.system_tables.specs.declared.ids.Communication.TheVariants.{Plain, On}
-use Rattle.system_state.specs.Words.{StateWords, queue_part}
+use Rattle.system_state.specs.Words.{queue_part}
 use Rattle.channel_system.specs.declared.answers.Event.{Event}
 use Rattle.channel_system.specs.declared.answers.Stepped.{Stepped}
 use Rattle.channel_system.specs.Channels.{receive_test}
-use Rattle.channel_system.specs.Steps.{run_of, ran_to, sent_into, oldest_in, taken_from}
-use Rattle.channel_system.specs.Steps.{left_by, no_event, event_of, event_if, told_if, refused_with}
-use Rattle.channel_system.specs.Steps.{send_step, receive_step, spoken_by}
+use Rattle.channel_system.specs.Steps.{run_of, ran_to}
+use Rattle.channel_system.specs.Steps.{left_by, no_event, event_if, told_if, refused_with}
+use Rattle.channel_system.specs.Steps.{spoken_by}
 use Rattle.channel_system.specs.Facts.{Fitting, Speaks, Ran, DidMove}
 use Rattle.channel_system.proofs.RunLaws.{part_sound, part_run}
 use Rattle.channel_system.proofs.TransferLaws.{queue_small, queue_counted, message_stored}

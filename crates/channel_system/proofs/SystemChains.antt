@@ -38,7 +38,6 @@ use Rattle.channel_system.specs.Chains.{Call, transition, wait, read, held_numbe
 use Rattle.channel_system.specs.Chains.{length_number, queued_number, reading_number, answer_to, state_after, state_after_all}
 use Rattle.channel_system.specs.declared.answers.Length.TheVariants as Length
 use Rattle.channel_system.specs.declared.answers.Queued.{Queued}
-use Rattle.channel_system.specs.declared.answers.Queued.TheVariants as Queued
 use Rattle.channel_system.specs.declared.answers.GraphRun.{GraphRun}
 use Rattle.channel_system.specs.declared.answers.Waited.TheVariants as Waited
 use Rattle.channel_system.proofs.FittingLaws.{sound_pass}

@@ -15,7 +15,6 @@ use Rattle.graph_tables.specs.Refusals.{number_of}
 use Rattle.graph_tables.specs.Answers.{done_number}
 use Rattle.graph_tables.specs.Words.{clock_count}
 use Rattle.graph_tables.specs.declared.answers.Done.{Done}
-use Rattle.graph_tables.specs.declared.answers.Done.TheVariants as Done
 use Rattle.graph_tables.proofs.NumberLaws.{above_ok}
 use Rattle.program_graph.specs.declared.record.ProgramGraphRun.{ProgramGraphRun}
 use Rattle.program_graph.specs.declared.answers.Stepped.{Stepped}

@@ -1,13 +1,11 @@
 -- Laws of the queue of a channel that is lent as a part of the state, and of messages on their way in and out.
 use Prim.Native.Nat.{ℕ, ◌≤◌, ◌<◌}
-use mathlib.Core.Path.{◌≡◌, refl, sym, ap, ◌∙◌, subst}
+use mathlib.Core.Path.{◌≡◌, subst}
 use mathlib.Core.List.{List, ◌++◌}
 use native.Mathlib.Omega.{arith}
-use lib.ListN.{length, take, drop}
-use Rattle.graph_tables.specs.Sizes.{message_room}
+use lib.ListN.{take, drop}
 use Rattle.queues.specs.Layout.{queue_words}
 use Rattle.queues.specs.Queues.{stored_of, slots_for, Counted}
-use Rattle.queues.specs.Fits.{QueueKept}
 use Rattle.queues.proofs.FitLaws.{one_message}
 use Rattle.system_tables.specs.Sizes.{channel_room}
 use Rattle.system_tables.specs.Words.{channel_count, width_of, channel_kinds}

@@ -1,9 +1,8 @@
 -- What a wait of a system leaves: a state of the table, and after an accepted one every clock and the time moved alike.
-use Prim.Native.Nat.{ℕ, ◌+◌, ◌<◌}
-use mathlib.Core.Path.{◌≡◌, refl, sym, ◌∙◌}
-use mathlib.Core.Bool.{Bool, true, false}
+use Prim.Native.Nat.{ℕ}
+use mathlib.Core.Path.{◌≡◌}
+use mathlib.Core.Bool.{true}
 use mathlib.Core.List.{List}
-use Rattle.laws.specs.Ladder.{unless}
 use Rattle.laws.specs.Below.{all_below}
 use Rattle.laws.proofs.Ladder.{rung}
 use Rattle.laws.proofs.BelowLaws.{and_first}
@@ -11,7 +10,7 @@ use Rattle.system_tables.specs.Words.{graph_count}
 use Rattle.system_tables.specs.Sound.{SystemSound}
 use Rattle.system_state.specs.Fits.{StateSound}
 use Rattle.channel_system.specs.Steps.{system_fits}
-use Rattle.channel_system.specs.Waits.{all_fit, graph_holds, later_state, Passed, passed_of, wait_of}
+use Rattle.channel_system.specs.Waits.{all_fit, graph_holds, Passed, passed_of, wait_of}
 use Rattle.channel_system.proofs.LaterLaws.{later_sound}
 use Rattle.channel_system.proofs.FittingLaws.{fits_table_lem, fits_state, sound_pass}
 

@@ -23,7 +23,6 @@ use Rattle.run_steps.proofs.StepLaws.{clock_fits_lem, fits_at}
 use Rattle.program_graph.specs.Running as graph
 use Rattle.program_graph.specs.Running.{waits_on}
 use Rattle.program_graph.specs.declared.answers.Held.{Held}
-use Rattle.program_graph.specs.declared.answers.Held.TheVariants as Held
 use Rattle.program_graph.proofs.RunLaws.{same_processes, same_clocks}
 use Rattle.program_graph.proofs.RunReady.{invariant_at, invariants_from, through}
 use Rattle.program_graph.proofs.WaitingExactly.{waiting_exactly}
@@ -37,7 +36,6 @@ use Rattle.channel_system.specs.Waits.{clocks_fit, graph_holds, all_fit, Passed,
 use Rattle.channel_system.specs.Waits.{later_state, wait_open, graph_waits, system_waits, is_waiting_of}
 use Rattle.channel_system.specs.Waiting.{InTime, ClockLate, TooLate, HoldsAfter, Lowest, SomeAwaited}
 use Rattle.channel_system.specs.declared.answers.Waited.{Waited}
-use Rattle.channel_system.specs.declared.answers.Waited.TheVariants as Waited
 use Rattle.channel_system.proofs.RungLaws.{rung_on, rung_here, rung_last, rung_none, both_so, not_so, all_missing}
 
 -- ---- the lowest number at which a test fails

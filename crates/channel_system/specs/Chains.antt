@@ -7,7 +7,6 @@ use Rattle.graph_tables.specs.Refusals.{number_of}
 use Rattle.graph_tables.specs.Answers.{done_number}
 use Rattle.program_graph.specs.RunChains.{resets_clock}
 use Rattle.program_graph.specs.declared.answers.Held.{Held}
-use Rattle.program_graph.specs.declared.answers.Held.TheVariants as Held
 use Rattle.program_graph.specs.declared.answers.Listed as Graph
 use Rattle.program_graph.specs.declared.answers.Listed.TheVariants as OnGraph
 use Rattle.queues.specs.Queues.{values_of}
@@ -22,13 +21,9 @@ use Rattle.channel_system.specs.Listing.{possible_of, possible_on, nosync_on}
 use Rattle.channel_system.specs.Readers.{now_of, length_of, queued_of, graph_run_of}
 use Rattle.channel_system.specs.Told.{waited_number}
 use Rattle.channel_system.specs.declared.answers.Listed.{Listed}
-use Rattle.channel_system.specs.declared.answers.Listed.TheVariants as Listed
 use Rattle.channel_system.specs.declared.answers.Now.{Now}
-use Rattle.channel_system.specs.declared.answers.Now.TheVariants as Now
 use Rattle.channel_system.specs.declared.answers.Length.{Length}
-use Rattle.channel_system.specs.declared.answers.Length.TheVariants as Length
 use Rattle.channel_system.specs.declared.answers.Queued.{Queued}
-use Rattle.channel_system.specs.declared.answers.Queued.TheVariants as Queued
 
 -- a call that only reads, with what is handed to it: a delta, a graph, a channel, an entry
 pub data Reading : Type 0 where

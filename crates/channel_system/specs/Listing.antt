@@ -17,7 +17,6 @@ use Rattle.system_state.specs.Words.{queue_part}
 use Rattle.channel_system.specs.Channels.{list_test}
 use Rattle.channel_system.specs.Steps.{system_fits, run_of, spoken_by}
 use Rattle.channel_system.specs.declared.answers.Listed.{Listed}
-use Rattle.channel_system.specs.declared.answers.Listed.TheVariants as Listed
 
 -- ---- one graph
 -- the channel of a communication lets it be listed

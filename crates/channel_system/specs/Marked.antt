@@ -6,7 +6,6 @@ use Rattle.graph_tables.specs.Sizes.{last_time}
 use Rattle.graph_tables.specs.Answers.{done_number}
 use Rattle.graph_tables.specs.Refusals.{refusal}
 use Rattle.graph_tables.specs.declared.answers.Done.{Done}
-use Rattle.graph_tables.specs.declared.answers.Done.TheVariants as Done
 use Rattle.graph_tables.specs.declared.handed.Message.{Message}
 use Rattle.program_graph.specs.Marked.{both, examples as graph_examples}
 use Rattle.queues.specs.Layout.{queue_words}

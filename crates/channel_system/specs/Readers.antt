@@ -12,11 +12,8 @@ use Rattle.system_tables.specs.Words.{graph_count, channel_count}
 use Rattle.system_state.specs.Words.{time_in, run_part, queue_part}
 use Rattle.channel_system.specs.Steps.{system_fits}
 use Rattle.channel_system.specs.declared.answers.Now.{Now}
-use Rattle.channel_system.specs.declared.answers.Now.TheVariants as Now
 use Rattle.channel_system.specs.declared.answers.Length.{Length}
-use Rattle.channel_system.specs.declared.answers.Length.TheVariants as Length
 use Rattle.channel_system.specs.declared.answers.Queued.{Queued}
-use Rattle.channel_system.specs.declared.answers.Queued.TheVariants as Queued
 use Rattle.channel_system.specs.declared.answers.GraphRun.{GraphRun}
 
 unfoldable pub now_of : List ℕ → List ℕ → Now

@@ -20,7 +20,6 @@ use Rattle.system_state.specs.Fits.{ceiling_at}
 use Rattle.channel_system.specs.Steps.{own_post, locations_of, run_of, oldest_in, no_event, event_of}
 use Rattle.channel_system.specs.declared.answers.Event.{Event}
 use Rattle.channel_system.specs.declared.answers.Waited.{Waited}
-use Rattle.channel_system.specs.declared.answers.Waited.TheVariants as Waited
 
 -- ---- the number of a wait's answer: 0 for ok, 9 where a graph objects
 abbrev pub waited_number : Waited → ℕ

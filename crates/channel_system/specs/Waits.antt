@@ -7,12 +7,10 @@ use Rattle.graph_tables.specs.Refusals.{refusal}
 use Rattle.run_steps.specs.Lowest.{lowest}
 use Rattle.program_graph.specs.Running.{wait_fits, wait_holds, waits_on, later}
 use Rattle.program_graph.specs.declared.answers.Held.{Held}
-use Rattle.program_graph.specs.declared.answers.Held.TheVariants as Held
 use Rattle.system_tables.specs.Words.{graph_count, graph_part}
 use Rattle.system_state.specs.Words.{time_in, with_time}
 use Rattle.channel_system.specs.Steps.{system_fits, run_of, ran_to}
 use Rattle.channel_system.specs.declared.answers.Waited.{Waited}
-use Rattle.channel_system.specs.declared.answers.Waited.TheVariants as Waited
 
 -- ---- of one graph
 -- no clock of graph g would pass the last time

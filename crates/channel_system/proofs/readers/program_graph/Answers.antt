@@ -1,8 +1,6 @@
-use Prim.Native.Nat.{ℕ, ◌<◌}
-use mathlib.Core.Path.{◌≡◌, ap, ◌∙◌}
-use mathlib.Core.List.{List}
+use Prim.Native.Nat.{◌<◌}
+use mathlib.Core.Path.{ap, ◌∙◌}
 use native.Mathlib.Omega.{arith}
-use borrow.Author.Rules.{rules}
 use borrow.Author.Tests.{lt-ltb, le-ltb}
 use Rattle.laws.proofs.Ladder.{passed, stopped}
 use Rattle.laws.proofs.Tests.{held, failed}
@@ -27,51 +25,35 @@ told answer run = record { answer = answer; run = run }
 pub returns-then-not-system_fits : goal.returns-then-not-system_fits
 unfolding graph_run_of
 returns-then-not-system_fits c =
-    let b = c.before in
-    ap (told (refused_by 32)) c.no_run.ensures ∙ stopped _ _ (failed b.system_fits.ensures b.if-not-system_fits.true-raw)
+    ap (told (refused_by 32)) c.no_run.ensures ∙ stopped _ _ (failed c.system_fits.ensures c.if-not-system_fits.true-raw)
 
 pub graph_count-requires : goal.graph_count-requires
 graph_count-requires c =
-    let e = c.before in
-    let z = c.before.before.before.before.before in
-    (fits_table_lem z.args.t.now z.args.s.now (held e.system_fits.ensures e.if-not-system_fits.false-raw)).words
+    (fits_table_lem c.args.t.now c.args.s.now (held c.system_fits.ensures c.if-not-system_fits.false-raw)).words
 
 pub returns-then-graph_count-g : goal.returns-then-graph_count-g
 unfolding graph_run_of
 returns-then-graph_count-g c =
-    let b = c.before in
-    let n = c.before.before in
-    let e = c.before.before.before.before in
     ap (told (refused_by 17)) c.no_run-then-graph_count-g.ensures
-    ∙ passed (told (refused_by 32) no_run) (held e.system_fits.ensures e.if-not-system_fits.false-raw)
-    (stopped _ _ (le-ltb _ _ (rw n.graph_count.ensures at b.if-graph_count-g.true)))
+    ∙ passed (told (refused_by 32) no_run) (held c.system_fits.ensures c.if-not-system_fits.false-raw)
+    (stopped _ _ (le-ltb _ _ (rw c.graph_count.ensures at c.if-graph_count-g.true)))
 
 pub run_at-requires : goal.run_at-requires
 run_at-requires c =
-    let n = c.before in
-    let e = c.before.before.before in
-    let z = c.before.before.before.before.before.before.before in
-    let fits = held e.system_fits.ensures e.if-not-system_fits.false-raw in
-    let known : z.args.pg-id.0 < graph_count z.args.t.now = rw n.graph_count.ensures at c.if-graph_count-g.false in
-    let small : z.args.pg-id.0 < graph_room = omega (arith, known, (fits_table_lem z.args.t.now z.args.s.now fits).graphs) in
-    ((fits_state z.args.t.now z.args.s.now fits).words, small)
+    let fits = held c.system_fits.ensures c.if-not-system_fits.false-raw in
+    let known : c.args.pg_id.0 < graph_count c.args.t.now = rw c.graph_count.ensures at c.if-graph_count-g.false in
+    let small : c.args.pg_id.0 < graph_room = omega (arith, known, (fits_table_lem c.args.t.now c.args.s.now fits).graphs) in
+    ((fits_state c.args.t.now c.args.s.now fits).words, small)
 
 pub used_run-requires : goal.used_run-requires
 used_run-requires c =
-    let f = c.before in
-    let n = c.before.before in
-    let e = c.before.before.before.before in
-    let fits = held e.system_fits.ensures e.if-not-system_fits.false-raw in
-    let known = rw n.graph_count.ensures at f.if-graph_count-g.false in
+    let fits = held c.system_fits.ensures c.if-not-system_fits.false-raw in
+    let known = rw c.graph_count.ensures at c.if-graph_count-g.false in
     rw c.run_at.ensures (kept_readable _ _ ((fits_table_lem _ _ fits).graph _ known) ((fits_state _ _ fits).run _ known))
 
 pub returns : goal.returns
 unfolding graph_run_of
 returns c =
-    let h = c.before in
-    let f = c.before.before in
-    let n = c.before.before.before in
-    let e = c.before.before.before.before.before in
-    passed (told (refused_by 32) no_run) (held e.system_fits.ensures e.if-not-system_fits.false-raw)
-    (passed (told (refused_by 17) no_run) (lt-ltb _ _ (rw n.graph_count.ensures at f.if-graph_count-g.false))
-    (ap (told Accepted) (c.used_run.ensures ∙ ap used_run h.run_at.ensures)))
+    passed (told (refused_by 32) no_run) (held c.system_fits.ensures c.if-not-system_fits.false-raw)
+    (passed (told (refused_by 17) no_run) (lt-ltb _ _ (rw c.graph_count.ensures at c.if-graph_count-g.false))
+    (ap (told Accepted) (c.used_run.ensures ∙ ap used_run c.run_at.ensures)))

@@ -2,12 +2,10 @@ use Prim.Native.Nat.{ℕ, ◌<◌}
 use mathlib.Core.Path.{ap, ◌∙◌}
 use mathlib.Core.List.{List}
 use native.Mathlib.Omega.{arith}
-use borrow.Author.Rules.{rules}
 use borrow.Author.Tests.{lt-ltb, le-ltb}
 use Rattle.laws.proofs.Ladder.{passed, stopped}
 use Rattle.laws.proofs.Tests.{held, failed}
 use Rattle.graph_tables.specs.Refusals.{refusal}
-use Rattle.queues.specs.Queues.{stored_of}
 use Rattle.system_tables.specs.Sizes.{channel_room}
 use Rattle.system_tables.specs.Words.{channel_count}
 use Rattle.channel_system.specs.Readers.{queued_of, queued_at}
@@ -21,45 +19,30 @@ returns-then-not-system_fits c = stopped _ _ (failed c.system_fits.ensures c.if-
 
 pub channel_count-requires : goal.channel_count-requires
 channel_count-requires c =
-    let e = c.before in
-    let z = c.before.before.before.before.before in
-    (fits_table_lem z.args.t.now z.args.s.now (held e.system_fits.ensures e.if-not-system_fits.false-raw)).words
+    (fits_table_lem c.args.t.now c.args.s.now (held c.system_fits.ensures c.if-not-system_fits.false-raw)).words
 
 pub returns-then-channel_count-q : goal.returns-then-channel_count-q
 unfolding queued_of
 returns-then-channel_count-q c =
-    let n = c.before in
-    let e = c.before.before.before in
-    passed (Refused (refusal 32)) (held e.system_fits.ensures e.if-not-system_fits.false-raw)
-    (stopped _ _ (le-ltb _ _ (rw n.channel_count.ensures at c.if-channel_count-q.true)))
+    passed (Refused (refusal 32)) (held c.system_fits.ensures c.if-not-system_fits.false-raw)
+    (stopped _ _ (le-ltb _ _ (rw c.channel_count.ensures at c.if-channel_count-q.true)))
 
 pub queue_at-requires : goal.queue_at-requires
 queue_at-requires c =
-    let n = c.before in
-    let e = c.before.before.before in
-    let z = c.before.before.before.before.before.before.before in
-    let fits = held e.system_fits.ensures e.if-not-system_fits.false-raw in
-    let known : z.args.channel.0 < channel_count z.args.t.now = rw n.channel_count.ensures at c.if-channel_count-q.false in
-    let small : z.args.channel.0 < channel_room = omega (arith, known, (fits_table_lem z.args.t.now z.args.s.now fits).channels) in
-    ((fits_state z.args.t.now z.args.s.now fits).words, small)
+    let fits = held c.system_fits.ensures c.if-not-system_fits.false-raw in
+    let known : c.args.channel.0 < channel_count c.args.t.now = rw c.channel_count.ensures at c.if-channel_count-q.false in
+    let small : c.args.channel.0 < channel_room = omega (arith, known, (fits_table_lem c.args.t.now c.args.s.now fits).channels) in
+    ((fits_state c.args.t.now c.args.s.now fits).words, small)
 
 pub queued_at-requires : goal.queued_at-requires
 queued_at-requires c =
-    let f = c.before in
-    let n = c.before.before in
-    let e = c.before.before.before.before in
-    let fits = held e.system_fits.ensures e.if-not-system_fits.false-raw in
-    let known = rw n.channel_count.ensures at f.if-channel_count-q.false in
+    let fits = held c.system_fits.ensures c.if-not-system_fits.false-raw in
+    let known = rw c.channel_count.ensures at c.if-channel_count-q.false in
     rw c.queue_at.ensures ((fits_state _ _ fits).queue _ known).formed.counted
 
 pub returns : goal.returns
 unfolding queued_of
 returns c =
-    let h = c.before in
-    let f = c.before.before in
-    let n = c.before.before.before in
-    let e = c.before.before.before.before.before in
-    let z = c.before.before.before.before.before.before.before.before.before in
-    passed (Refused (refusal 32)) (held e.system_fits.ensures e.if-not-system_fits.false-raw)
-    (passed (Refused (refusal 30)) (lt-ltb _ _ (rw n.channel_count.ensures at f.if-channel_count-q.false))
-    (c.queued_at.ensures ∙ ap (λ (x : List ℕ). queued_at x z.args.k) h.queue_at.ensures))
+    passed (Refused (refusal 32)) (held c.system_fits.ensures c.if-not-system_fits.false-raw)
+    (passed (Refused (refusal 30)) (lt-ltb _ _ (rw c.channel_count.ensures at c.if-channel_count-q.false))
+    (c.queued_at.ensures ∙ ap (λ (x : List ℕ). queued_at x c.args.k) c.queue_at.ensures))

@@ -1,6 +1,5 @@
-use borrow.Author.Rules.{rules}
 use borrow.Author.Tests.{lt-ltb, le-ltb}
-use mathlib.Core.Path.{ap, ◌∙◌}
+use mathlib.Core.Path.{ap}
 use Rattle.channel_system.specs.declared.answers.Queued.TheVariants.{At}
 use Rattle.channel_system.proofs.readers.queued_at.Goals as goal
 
@@ -12,5 +11,4 @@ value_at-requires c = (c.requires, rw c.stored.ensures at c.if-stored-k.false)
 
 pub returns : goal.returns
 returns c =
-    let e = c.before in
-    rw (lt-ltb _ _ (rw e.stored.ensures at e.if-stored-k.false)) (ap At c.value_at.ensures)
+    rw (lt-ltb _ _ (rw c.stored.ensures at c.if-stored-k.false)) (ap At c.value_at.ensures)

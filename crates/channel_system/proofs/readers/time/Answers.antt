@@ -1,6 +1,5 @@
 use mathlib.Core.Path.{ap}
 use native.Mathlib.Omega.{arith}
-use borrow.Author.Rules.{rules}
 use Rattle.laws.proofs.Ladder.{passed, stopped}
 use Rattle.laws.proofs.Tests.{held, failed}
 use Rattle.channel_system.specs.Readers.{now_of}
@@ -14,21 +13,17 @@ returns-then-not-system_fits c = stopped _ _ (failed c.system_fits.ensures c.if-
 
 pub time_of-requires : goal.time_of-requires
 time_of-requires c =
-    let z = c.before.before.before.before in
-    (fits_state z.args.t.now z.args.s.now (held c.system_fits.ensures c.if-not-system_fits.false-raw)).words
+    (fits_state c.args.t.now c.args.s.now (held c.system_fits.ensures c.if-not-system_fits.false-raw)).words
 
 pub overflow_cast-result : goal.overflow_cast-result
 overflow_cast-result c =
-    let e = c.before in
-    let z = c.before.before.before.before.before in
     omega (
       arith,
       c.time_of.ensures,
-      (fits_state z.args.t.now z.args.s.now (held e.system_fits.ensures e.if-not-system_fits.false-raw)).time,
+      (fits_state c.args.t.now c.args.s.now (held c.system_fits.ensures c.if-not-system_fits.false-raw)).time,
     )
 
 pub returns : goal.returns
 unfolding now_of
 returns c =
-    let e = c.before in
-    passed _ (held e.system_fits.ensures e.if-not-system_fits.false-raw) (ap Is c.time_of.ensures)
+    passed _ (held c.system_fits.ensures c.if-not-system_fits.false-raw) (ap Is c.time_of.ensures)

@@ -1,5 +1,4 @@
 use mathlib.Core.Path.{ap}
-use borrow.Author.Rules.{rules}
 use Rattle.laws.proofs.Ladder.{passed, stopped}
 use Rattle.laws.proofs.Tests.{held, failed}
 use Rattle.program_graph.specs.declared.answers.Held.TheVariants.{Is}
@@ -17,5 +16,4 @@ can_wait-requires c = fits_both _ _ (held c.system_fits.ensures c.if-not-system_
 pub returns : goal.returns
 unfolding can_wait_of
 returns c =
-    let e = c.before in
-    passed _ (held e.system_fits.ensures e.if-not-system_fits.false-raw) (ap Is c.can_wait.ensures)
+    passed _ (held c.system_fits.ensures c.if-not-system_fits.false-raw) (ap Is c.can_wait.ensures)

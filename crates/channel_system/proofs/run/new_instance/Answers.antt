@@ -1,5 +1,4 @@
 use mathlib.Core.Path.{refl}
-use borrow.Author.Rules.{rules}
 use borrow.Author.Tests.{eq-eqb, ne_eqb}
 use Rattle.laws.specs.Ladder.{unless}
 use Rattle.laws.proofs.Tests.{held, failed}
@@ -14,19 +13,13 @@ returns-then-not-system_formed c = rw (failed c.system_formed.ensures c.if-not-s
 pub returns-then-s-ne-WORDS : goal.returns-then-s-ne-WORDS
 unfolding new_instance_of unless
 returns-then-s-ne-WORDS c =
-    let e = c.before in
-    rw (held e.system_formed.ensures e.if-not-system_formed.false-raw, ne_eqb _ _ c.if-s-ne-WORDS.true) (refl, refl)
+    rw (held c.system_formed.ensures c.if-not-system_formed.false-raw, ne_eqb _ _ c.if-s-ne-WORDS.true) (refl, refl)
 
 pub fresh_state-requires : goal.fresh_state-requires
 fresh_state-requires c =
-    let f = c.before in
-    let e = c.before.before in
-    (system_sound _ _ (held e.system_formed.ensures e.if-not-system_formed.false-raw), f.if-s-ne-WORDS.false)
+    (system_sound _ _ (held c.system_formed.ensures c.if-not-system_formed.false-raw), c.if-s-ne-WORDS.false)
 
 pub returns : goal.returns
 unfolding new_instance_of unless
 returns c =
-    let w = c.before.before in
-    let f = c.before.before.before.before in
-    let e = c.before.before.before.before.before in
-    rw (held e.system_formed.ensures e.if-not-system_formed.false-raw, eq-eqb _ _ f.if-s-ne-WORDS.false) (refl, w.fresh_state.ensures)
+    rw (held c.system_formed.ensures c.if-not-system_formed.false-raw, eq-eqb _ _ c.if-s-ne-WORDS.false) (refl, c.fresh_state.ensures)

@@ -1,4 +1,3 @@
-use borrow.Author.Rules.{rules}
 use Rattle.laws.proofs.BelowLaws.{and_yes, and_no}
 use Rattle.laws.proofs.Tests.{held, failed}
 use Rattle.system_tables.proofs.SoundLaws.{system_sound}
@@ -15,5 +14,4 @@ state_fits-requires c = system_sound _ _ (held c.system_formed.ensures c.if-not-
 pub returns : goal.returns
 unfolding system_fits
 returns c =
-    let e = c.before in
-    and_yes (held e.system_formed.ensures e.if-not-system_formed.false-raw) c.state_fits.ensures
+    and_yes (held c.system_formed.ensures c.if-not-system_formed.false-raw) c.state_fits.ensures

@@ -1,5 +1,4 @@
 use mathlib.Core.Path.{refl}
-use borrow.Author.Rules.{rules}
 use Rattle.laws.specs.Ladder.{unless}
 use Rattle.laws.proofs.Tests.{held, failed}
 use Rattle.channel_system.specs.Waits.{wait_of}
@@ -11,11 +10,9 @@ unfolding wait_of unless
 returns-then-not-system_fits c = rw (failed c.system_fits.ensures c.if-not-system_fits.true-raw) (refl, refl)
 
 pub wait-requires : goal.wait-requires
-wait-requires c = let e = c.before in fits_both _ _ (held e.system_fits.ensures e.if-not-system_fits.false-raw)
+wait-requires c = fits_both _ _ (held c.system_fits.ensures c.if-not-system_fits.false-raw)
 
 pub returns : goal.returns
 unfolding wait_of unless
 returns c =
-    let w = c.before.before in
-    let e = c.before.before.before.before in
-    rw (held e.system_fits.ensures e.if-not-system_fits.false-raw) w.wait.ensures
+    rw (held c.system_fits.ensures c.if-not-system_fits.false-raw) c.wait.ensures

@@ -2,7 +2,6 @@ use Prim.Native.Nat.{◌<◌}
 use mathlib.Core.Path.{◌≡◌, sym, ap, ◌∙◌}
 use mathlib.Core.Bool.{true}
 use native.Mathlib.Omega.{arith}
-use borrow.Author.Rules.{rules}
 use borrow.Author.Tests.{lt-ltb, le-ltb, eq-eqb, ne_eqb}
 use Rattle.laws.proofs.Ladder.{passed, stopped}
 use Rattle.laws.proofs.Tests.{held, failed}
@@ -17,7 +16,7 @@ use Rattle.channel_system.specs.Steps.{system_fits, run_of}
 use Rattle.channel_system.specs.Listing.{nosync_on}
 use Rattle.channel_system.proofs.FittingLaws.{fits_table_lem, fits_state}
 use Rattle.channel_system.proofs.transitions.nosync_possible_transitions_pg.Goals as goal
-use Rattle.channel_system.proofs.transitions.nosync_possible_transitions_pg.Goals.{After-process_count, Else-graph_count-g, Start}
+use Rattle.channel_system.proofs.transitions.nosync_possible_transitions_pg.Goals.{After-process_count}
 
 pub returns-then-not-system_fits : goal.returns-then-not-system_fits
 unfolding nosync_on
@@ -25,80 +24,55 @@ returns-then-not-system_fits c = stopped _ _ (failed c.system_fits.ensures c.if-
 
 pub graph_count-requires : goal.graph_count-requires
 graph_count-requires c =
-    let e = c.before in
-    let z = c.before.before.before.before.before in
-    (fits_table_lem z.args.t.now z.args.s.now (held e.system_fits.ensures e.if-not-system_fits.false-raw)).words
+    (fits_table_lem c.args.t.now c.args.s.now (held c.system_fits.ensures c.if-not-system_fits.false-raw)).words
 
 pub returns-then-graph_count-g : goal.returns-then-graph_count-g
 unfolding nosync_on
 returns-then-graph_count-g c =
-    let n = c.before in
-    let e = c.before.before.before in
-    passed (Refused (refusal 32)) (held e.system_fits.ensures e.if-not-system_fits.false-raw)
-    (stopped _ _ (le-ltb _ _ (rw n.graph_count.ensures at c.if-graph_count-g.true)))
+    passed (Refused (refusal 32)) (held c.system_fits.ensures c.if-not-system_fits.false-raw)
+    (stopped _ _ (le-ltb _ _ (rw c.graph_count.ensures at c.if-graph_count-g.true)))
 
 pub graph_at-requires : goal.graph_at-requires
 graph_at-requires c =
-    let n = c.before in
-    let e = c.before.before.before in
-    let z = c.before.before.before.before.before.before.before in
-    let fits = held e.system_fits.ensures e.if-not-system_fits.false-raw in
-    let known : z.args.pg-id.0 < graph_count z.args.t.now = rw n.graph_count.ensures at c.if-graph_count-g.false in
-    let table = fits_table_lem z.args.t.now z.args.s.now fits in
-    let small : z.args.pg-id.0 < graph_room = omega (arith, known, table.graphs) in
+    let fits = held c.system_fits.ensures c.if-not-system_fits.false-raw in
+    let known : c.args.pg_id.0 < graph_count c.args.t.now = rw c.graph_count.ensures at c.if-graph_count-g.false in
+    let table = fits_table_lem c.args.t.now c.args.s.now fits in
+    let small : c.args.pg_id.0 < graph_room = omega (arith, known, table.graphs) in
     (table.words, small)
 
 pub process_count-requires : goal.process_count-requires
 process_count-requires c =
-    let f = c.before in
-    let n = c.before.before in
-    let e = c.before.before.before.before in
-    let fits = held e.system_fits.ensures e.if-not-system_fits.false-raw in
-    let known = rw n.graph_count.ensures at f.if-graph_count-g.false in
+    let fits = held c.system_fits.ensures c.if-not-system_fits.false-raw in
+    let known = rw c.graph_count.ensures at c.if-graph_count-g.false in
     rw c.graph_at.ensures ((fits_table_lem _ _ fits).graph _ known).words
 
 -- the run has as many processes as the graph
 module _ (c : After-process_count) where
-  abbrev graph : After-process_count
-  graph = c
+  fits : system_fits c.args.t.now c.args.s.now ≡ true
+  fits = held c.system_fits.ensures c.if-not-system_fits.false-raw
 
-  abbrev else2 : Else-graph_count-g
-  else2 = graph.before
+  known : c.args.pg_id.0 < graph_count c.args.t.now
+  known = omega (arith, c.graph_count.ensures, c.if-graph_count-g.false)
 
-  abbrev start : Start
-  start = else2.before.before.before.before.before.before.before
-
-  fits : system_fits start.args.t.now start.args.s.now ≡ true
-  fits = let e = else2.before.before.before in
-      held e.system_fits.ensures e.if-not-system_fits.false-raw
-
-  known : start.args.pg-id.0 < graph_count start.args.t.now
-  known = omega (arith, else2.graph_count.ensures, else2.if-graph_count-g.false)
-
-  counted : (run_of start.args.s.now start.args.pg-id.0).processes ≡ c.process_count.result
+  counted : (run_of c.args.s.now c.args.pg_id.0).processes ≡ c.process_count.result
   counted =
       same_processes _ _ ((fits_state _ _ fits).run _ known).run.formed
-      ∙ sym (c.process_count.ensures ∙ ap process_count graph.graph_at.ensures)
+      ∙ sym (c.process_count.ensures ∙ ap process_count c.graph_at.ensures)
 
 pub returns-then-process_count-ne1 : goal.returns-then-process_count-ne1
 unfolding nosync_on
 returns-then-process_count-ne1 c =
-    let p = c.before in
     passed (Refused (refusal 32)) (fits (goal.at.returns-then-process_count-ne1 c).After-process_count)
     (passed (Refused (refusal 17)) (lt-ltb _ _ (known (goal.at.returns-then-process_count-ne1 c).After-process_count)) (stopped _ _ (ne_eqb _ _ (λ q. c.if-process_count-ne1.true (sym (counted (goal.at.returns-then-process_count-ne1 c).After-process_count) ∙ q)))))
 
 pub seek_on-requires : goal.seek_on-requires
 seek_on-requires c =
-    let p = c.before in
     record { table = fits_table_lem _ _ (fits (goal.at.seek_on-requires c).After-process_count); state = fits_state _ _ (fits (goal.at.seek_on-requires c).After-process_count); known = known (goal.at.seek_on-requires c).After-process_count }
 
 pub returns : goal.returns
 unfolding nosync_on
 returns c =
-    let k = c.before in
-    let h = c.before.before in
-    let p = c.before.before.before in
     passed (Refused (refusal 32)) (fits (goal.at.returns c).After-process_count)
     (passed (Refused (refusal 17)) (lt-ltb _ _ (known (goal.at.returns c).After-process_count))
-    (passed (Refused (refusal 16)) (eq-eqb _ _ (counted (goal.at.returns c).After-process_count ∙ h.if-process_count-ne1.false))
-    (c.entry_or_end.ensures ∙ ap entry_or_end k.seek_on.ensures)))
+    (passed (Refused (refusal 16)) (eq-eqb _ _ (counted (goal.at.returns c).After-process_count ∙ c.if-process_count-ne1.false))
+    (c.entry_or_end.ensures ∙ ap entry_or_end c.seek_on.ensures)))

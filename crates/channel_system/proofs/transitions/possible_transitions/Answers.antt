@@ -1,4 +1,3 @@
-use borrow.Author.Rules.{rules}
 use Rattle.laws.proofs.Ladder.{passed, stopped}
 use Rattle.laws.proofs.Tests.{held, failed}
 use Rattle.channel_system.specs.Listing.{possible_of}
@@ -14,4 +13,4 @@ entry_at-requires c = fits_both _ _ (held c.system_fits.ensures c.if-not-system_
 
 pub returns : goal.returns
 unfolding possible_of
-returns c = let e = c.before in passed _ (held e.system_fits.ensures e.if-not-system_fits.false-raw) c.entry_at.ensures
+returns c = passed _ (held c.system_fits.ensures c.if-not-system_fits.false-raw) c.entry_at.ensures

@@ -1,14 +1,10 @@
-use Prim.Native.Nat.{◌<◌}
 use mathlib.Core.Path.{ap, ◌∙◌}
-use native.Mathlib.Omega.{arith}
-use borrow.Author.Rules.{rules}
 use borrow.Author.Tests.{lt-ltb, le-ltb}
 use Rattle.laws.proofs.Ladder.{passed, stopped}
 use Rattle.laws.proofs.Tests.{held, failed}
 use Rattle.graph_tables.specs.Refusals.{refusal}
 use Rattle.program_graph.specs.Transitions.{entry_or_end}
 use Rattle.program_graph.specs.declared.answers.Listed.TheVariants.{Refused}
-use Rattle.system_tables.specs.Words.{graph_count}
 use Rattle.channel_system.specs.Listing.{possible_on}
 use Rattle.channel_system.proofs.FittingLaws.{fits_table_lem, fits_state}
 use Rattle.channel_system.proofs.transitions.possible_transitions_pg.Goals as goal
@@ -19,32 +15,22 @@ returns-then-not-system_fits c = stopped _ _ (failed c.system_fits.ensures c.if-
 
 pub graph_count-requires : goal.graph_count-requires
 graph_count-requires c =
-    let e = c.before in
-    let z = c.before.before.before.before.before in
-    (fits_table_lem z.args.t.now z.args.s.now (held e.system_fits.ensures e.if-not-system_fits.false-raw)).words
+    (fits_table_lem c.args.t.now c.args.s.now (held c.system_fits.ensures c.if-not-system_fits.false-raw)).words
 
 pub returns-then-graph_count-g : goal.returns-then-graph_count-g
 unfolding possible_on
 returns-then-graph_count-g c =
-    let n = c.before in
-    let e = c.before.before.before in
-    passed (Refused (refusal 32)) (held e.system_fits.ensures e.if-not-system_fits.false-raw)
-    (stopped _ _ (le-ltb _ _ (rw n.graph_count.ensures at c.if-graph_count-g.true)))
+    passed (Refused (refusal 32)) (held c.system_fits.ensures c.if-not-system_fits.false-raw)
+    (stopped _ _ (le-ltb _ _ (rw c.graph_count.ensures at c.if-graph_count-g.true)))
 
 pub seek_on-requires : goal.seek_on-requires
 seek_on-requires c =
-    let n = c.before in
-    let e = c.before.before.before in
-    let fits = held e.system_fits.ensures e.if-not-system_fits.false-raw in
-    record { table = fits_table_lem _ _ fits; state = fits_state _ _ fits; known = rw n.graph_count.ensures at c.if-graph_count-g.false }
+    let fits = held c.system_fits.ensures c.if-not-system_fits.false-raw in
+    record { table = fits_table_lem _ _ fits; state = fits_state _ _ fits; known = rw c.graph_count.ensures at c.if-graph_count-g.false }
 
 pub returns : goal.returns
 unfolding possible_on
 returns c =
-    let k = c.before in
-    let f = c.before.before in
-    let n = c.before.before.before in
-    let e = c.before.before.before.before.before in
-    passed (Refused (refusal 32)) (held e.system_fits.ensures e.if-not-system_fits.false-raw)
-    (passed (Refused (refusal 17)) (lt-ltb _ _ (rw n.graph_count.ensures at f.if-graph_count-g.false))
-    (c.entry_or_end.ensures ∙ ap entry_or_end k.seek_on.ensures))
+    passed (Refused (refusal 32)) (held c.system_fits.ensures c.if-not-system_fits.false-raw)
+    (passed (Refused (refusal 17)) (lt-ltb _ _ (rw c.graph_count.ensures at c.if-graph_count-g.false))
+    (c.entry_or_end.ensures ∙ ap entry_or_end c.seek_on.ensures))

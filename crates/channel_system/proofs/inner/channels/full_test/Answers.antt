@@ -1,11 +1,6 @@
-use Prim.Native.Nat.{ℕ, zero, suc, ◌+◌, ◌-◌, ◌*◌, ◌/◌, ◌%◌, ◌≤◌, ◌<◌}
-use mathlib.Core.Path.{◌≡◌, refl, sym, ap, ◌∙◌}
-use native.Mathlib.Omega.{arith}
-use lib.ListN.{length, get_or, set, length-set}
-use borrow.Author.Rules.{rules}
-use Rattle.laws.proofs.Tests.{denied, granted, held, failed}
+use Rattle.laws.proofs.Tests.{denied, granted}
 use Rattle.laws.specs.Ladder.{unless}
-use Rattle.channel_system.specs.Channels.{send_test, receive_test, empty_test, full_test}
+use Rattle.channel_system.specs.Channels.{full_test}
 use Rattle.channel_system.proofs.inner.channels.full_test.Goals as goal
 
 pub returns-then-handshakes : goal.returns-then-handshakes
@@ -15,17 +10,14 @@ returns-then-handshakes c = rw (denied c.handshakes.ensures c.if-handshakes.true
 pub returns-in-Bounded : goal.returns-in-Bounded
 unfolding full_test unless
 returns-in-Bounded c =
-    let e = c.before.before in
-    rw (granted e.handshakes.ensures e.if-handshakes.false, c.in-Bounded.is) c.reaches.ensures
+    rw (granted c.handshakes.ensures c.if-handshakes.false, c.in-Bounded.is) c.reaches.ensures
 
 pub returns-in-Unbounded : goal.returns-in-Unbounded
 unfolding full_test unless
 returns-in-Unbounded c =
-    let e = c.before in
-    rw (granted e.handshakes.ensures e.if-handshakes.false, c.in-Unbounded.is)
+    rw (granted c.handshakes.ensures c.if-handshakes.false, c.in-Unbounded.is)
 
 pub returns-in-Sink : goal.returns-in-Sink
 unfolding full_test unless
 returns-in-Sink c =
-    let e = c.before in
-    rw (granted e.handshakes.ensures e.if-handshakes.false, c.in-Sink.is)
+    rw (granted c.handshakes.ensures c.if-handshakes.false, c.in-Sink.is)

@@ -1,5 +1,4 @@
 use Rattle.channel_system.specs.Channels.{list_test}
-use borrow.Author.Rules.{rules}
 use Rattle.channel_system.proofs.inner.channels.list_test.Goals as goal
 
 pub returns-in-Send : goal.returns-in-Send

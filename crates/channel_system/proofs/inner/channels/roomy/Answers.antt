@@ -1,11 +1,7 @@
-use Prim.Native.Nat.{ℕ, zero, suc, ◌+◌, ◌-◌, ◌*◌, ◌/◌, ◌%◌, ◌≤◌, ◌<◌}
-use mathlib.Core.Path.{◌≡◌, refl, sym, ap, ◌∙◌}
 use native.Mathlib.Omega.{arith}
-use lib.ListN.{length, get_or, set, length-set}
-use borrow.Author.Rules.{rules}
-use borrow.Author.Tests.{lt-ltb, le-ltb, le-leb, lt-leb, eq-eqb, ne_eqb}
+use borrow.Author.Tests.{le-leb, lt-leb}
 use Rattle.laws.specs.Ladder.{unless}
-use Rattle.channel_system.specs.Channels.{send_test, receive_test, empty_test, full_test}
+use Rattle.channel_system.specs.Channels.{send_test}
 use Rattle.queues.proofs.MessageLaws.{slots_few}
 use Rattle.channel_system.proofs.inner.channels.roomy.Goals as goal
 

@@ -1,4 +1,3 @@
-use borrow.Author.Rules.{rules}
 use Rattle.channel_system.proofs.inner.channels.send_listed.Goals as goal
 
 pub returns-in-Bounded : goal.returns-in-Bounded

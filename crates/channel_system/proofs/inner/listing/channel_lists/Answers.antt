@@ -3,16 +3,12 @@ use Rattle.channel_system.proofs.inner.listing.channel_lists.Goals as goal
 
 pub stored-stored-requires : goal.stored-stored-requires
 stored-stored-requires c =
-    let z = c.before.before.before in
-    rw c.queue_at.ensures (z.requires.1.queue z.args.q z.requires.2).formed.counted
+    rw c.queue_at.ensures (c.requires.1.queue c.args.q c.requires.2).formed.counted
 
 pub capacity_of-capacity-requires : goal.capacity_of-capacity-requires
 capacity_of-capacity-requires c =
-    let z = c.before.before.before.before in
-    (z.requires.0.words, search rules, (z.requires.0.channel z.args.q z.requires.2).bound)
+    (c.requires.0.words, search rules, (c.requires.0.channel c.args.q c.requires.2).bound)
 
 pub returns : goal.returns
 returns c =
-    let a = c.before in
-    let b = c.before.before in
-    rw (a.capacity_of-capacity.ensures, b.stored-stored.ensures, b.queue_at.ensures) at c.list_test.ensures
+    rw (c.capacity_of-capacity.ensures, c.stored-stored.ensures, c.queue_at.ensures) at c.list_test.ensures

@@ -1,10 +1,8 @@
 use Prim.Native.Nat.{◌≤◌, ◌-◌}
-use mathlib.Core.Path.{◌≡◌, sym, ap, ◌∙◌}
-use native.Mathlib.Omega.{arith}
-use borrow.Author.Rules.{rules}
+use mathlib.Core.Path.{◌≡◌}
 use Rattle.system_tables.specs.Words.{graph_count}
 use Rattle.channel_system.specs.Listing.{listed_below}
-use Rattle.channel_system.proofs.EntryLaws.{Passes, passes_none, passes_more, entry_found, entry_end}
+use Rattle.channel_system.proofs.EntryLaws.{Passes}
 use Rattle.channel_system.proofs.inner.listing.entry_at.Given as goal
 
 abbrev pub invariant-loop-g : goal.invariant-loop-g

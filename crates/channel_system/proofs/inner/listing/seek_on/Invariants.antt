@@ -1,11 +1,8 @@
-use Prim.Native.Nat.{◌≤◌, ◌<◌, ◌-◌}
-use mathlib.Core.Path.{◌≡◌, ◌∙◌, ap}
-use native.Mathlib.Omega.{arith}
-use borrow.Author.Rules.{rules}
-use Rattle.graph_tables.specs.Words.{action_count, epsilon}
+use Prim.Native.Nat.{◌≤◌, ◌-◌}
+use mathlib.Core.Path.{◌≡◌}
+use Rattle.graph_tables.specs.Words.{action_count}
 use Rattle.run_steps.specs.Listing.{seek, join_below}
 use Rattle.run_steps.specs.declared.inner.listing.Sought.TheVariants.{Left}
-use Rattle.run_steps.proofs.ListingLaws.{first_found, first_passed, join_none, join_more, join_found, join_done}
 use Rattle.system_tables.specs.Words.{graph_part}
 use Rattle.channel_system.specs.Listing.{entries_by}
 use Rattle.channel_system.proofs.inner.listing.seek_on.Given as goal

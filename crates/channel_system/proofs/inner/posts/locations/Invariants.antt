@@ -1,10 +1,8 @@
-use Prim.Native.Nat.{ℕ, zero, suc, ◌+◌, ◌-◌, ◌*◌, ◌/◌, ◌%◌, ◌≤◌, ◌<◌}
-use mathlib.Core.Path.{◌≡◌, refl, sym, ap, ◌∙◌}
-use native.Mathlib.Omega.{arith}
-use lib.ListN.{length, get_or, set, length-set}
-use borrow.Author.Rules.{rules}
+use Prim.Native.Nat.{◌-◌, ◌≤◌}
+use mathlib.Core.Path.{◌≡◌}
+use lib.ListN.{length}
 use Rattle.channel_system.specs.Steps.{locations_of}
-use Rattle.channel_system.proofs.PostLaws.{locations_length, location_at, Copied, copied_more, take_copied}
+use Rattle.channel_system.proofs.PostLaws.{Copied}
 use Rattle.channel_system.proofs.inner.posts.locations.Given as goal
 
 abbrev pub invariant-loop-i : goal.invariant-loop-i

@@ -1,11 +1,8 @@
-use Prim.Native.Nat.{ℕ, zero, suc, ◌+◌, ◌-◌, ◌*◌, ◌/◌, ◌%◌, ◌≤◌, ◌<◌}
-use mathlib.Core.Path.{◌≡◌, refl, sym, ap, ◌∙◌}
+use mathlib.Core.Path.{refl, ap}
 use native.Mathlib.Omega.{arith}
-use lib.ListN.{length, get_or, set, length-set}
 use borrow.Author.Rules.{rules}
-use mathlib.Core.Bool.{true, not}
+use mathlib.Core.Bool.{not}
 use borrow.Author.Tests.{eq-eqb, ne_eqb}
-use Rattle.laws.specs.Below.{all_below}
 use Rattle.laws.proofs.BelowLaws.{all_none}
 use Rattle.graph_tables.proofs.FormedLaws.{turn_fails, turn_holds, turns_end}
 use Rattle.channel_system.specs.Steps.{own_post}
@@ -17,14 +14,12 @@ loop-i-init c = (search rules, all_none _)
 pub returns-then-posts-i : goal.returns-then-posts-i
 unfolding own_post
 returns-then-posts-i c =
-    let l = c.before.before.before in
-    turn_fails _ _ l.loop-i.i (omega arith) refl (ap not (ne_eqb _ _ c.if-posts-i.true))
+    turn_fails _ _ c.loop-i.i (omega arith) refl (ap not (ne_eqb _ _ c.if-posts-i.true))
 
 pub loop-i-preserved : goal.loop-i-preserved
 unfolding own_post
 loop-i-preserved c =
-    let l = c.before.before.before in
-    turn_holds _ _ l.loop-i.i (omega arith) l.loop-i.invariant.1 refl (ap not (eq-eqb _ _ c.if-posts-i.false))
+    turn_holds _ _ c.loop-i.i (omega arith) c.loop-i.invariant.1 refl (ap not (eq-eqb _ _ c.if-posts-i.false))
 
 pub returns : goal.returns
-returns c = let l = c.before in turns_end _ _ l.loop-i.i (omega arith) (omega arith) l.loop-i.invariant.1
+returns c = turns_end _ _ c.loop-i.i (omega arith) (omega arith) c.loop-i.invariant.1

@@ -1,13 +1,8 @@
-use Prim.Native.Nat.{ℕ, zero, suc, ◌+◌, ◌-◌, ◌*◌, ◌/◌, ◌%◌, ◌≤◌, ◌<◌}
-use mathlib.Core.Path.{◌≡◌, refl, sym, ap, ◌∙◌}
-use native.Mathlib.Omega.{arith}
-use lib.ListN.{length, get_or, set, length-set}
-use borrow.Author.Rules.{rules}
-use mathlib.Core.Bool.{true, not}
-use borrow.Author.Tests.{eq-eqb, ne_eqb}
+use Prim.Native.Nat.{◌-◌, ◌≤◌}
+use mathlib.Core.Path.{◌≡◌}
+use lib.ListN.{length}
+use mathlib.Core.Bool.{true}
 use Rattle.laws.specs.Below.{all_below}
-use Rattle.laws.proofs.BelowLaws.{all_none}
-use Rattle.graph_tables.proofs.FormedLaws.{turn_fails, turn_holds, turns_end}
 use Rattle.channel_system.specs.Steps.{own_post}
 use Rattle.channel_system.proofs.inner.posts.own.Given as goal
 

@@ -1,7 +1,7 @@
-use Prim.Native.Nat.{ℕ, zero, suc, ◌+◌, ◌-◌, ◌*◌, ◌/◌, ◌%◌, ◌≤◌, ◌<◌}
+use Prim.Native.Nat.{ℕ, ◌-◌, ◌≤◌}
 use mathlib.Core.Path.{◌≡◌, refl, sym, ap, ◌∙◌}
 use native.Mathlib.Omega.{arith}
-use lib.ListN.{length, get_or, set, length-set}
+use lib.ListN.{length}
 use borrow.Author.Rules.{rules}
 use mathlib.Core.Bool.{true}
 use lib.Dec.{ltb}
@@ -30,65 +30,45 @@ known e = lt-ltb _ _ (rw e.graph_count.ensures at e.if-graph_count-g.false)
 pub returns-then-graph_count-g : goal.returns-then-graph_count-g
 unfolding moved_of unless
 returns-then-graph_count-g c =
-    let k = c.before.before in
-    rw (le-ltb _ _ (rw k.graph_count.ensures at c.if-graph_count-g.true)) (c.refused.ensures, refl)
+    rw (le-ltb _ _ (rw c.graph_count.ensures at c.if-graph_count-g.true)) (c.refused.ensures, refl)
 
 pub returns-then-owner-g : goal.returns-then-owner-g
 unfolding moved_of unless
 returns-then-owner-g c =
-    let f = c.before in
-    let e = c.before.before.before.before in
-    rw (known (goal.at.returns-then-owner-g c).Else-graph_count-g, ne_eqb _ _ f.if-owner-g.true) (c.refused-then-owner-g.ensures, refl)
+    rw (known (goal.at.returns-then-owner-g c).Else-graph_count-g, ne_eqb _ _ c.if-owner-g.true) (c.refused-then-owner-g.ensures, refl)
 
 pub returns-then-not-own : goal.returns-then-not-own
 unfolding moved_of unless
 returns-then-not-own c =
-    let f = c.before in
-    let o = c.before.before in
-    let h = c.before.before.before in
-    let e = c.before.before.before.before.before.before in
-    rw (known (goal.at.returns-then-not-own c).Else-graph_count-g, eq-eqb _ _ h.if-owner-g.false, failed o.own.ensures f.if-not-own.true-raw) (c.refused-then-not-own.ensures, refl)
+    rw (known (goal.at.returns-then-not-own c).Else-graph_count-g, eq-eqb _ _ c.if-owner-g.false, failed c.own.ensures c.if-not-own.true-raw) (c.refused-then-not-own.ensures, refl)
 
 pub locations-requires : goal.locations-requires
 locations-requires c =
-    let n = c.before in
-    let e = c.before.before.before.before.before.before.before in
-    let ps = e.args.posts.now in
-    let h : n.few-n.result ≡ few_of (length ps) = n.few-n.ensures in
+    let ps = c.args.posts.now in
+    let h : c.few-n.result ≡ few_of (length ps) = c.few-n.ensures in
     let few = few_bounds (length ps) in
     (omega (arith, h, few.0), omega (arith, h, few.1))
 
 pub slice_bounds-step_as-end : goal.slice_bounds-step_as-end
 slice_bounds-step_as-end c =
-    let o = c.before.before.before.before in
-    let n = c.before.before.before.before.before.before in
-    let e = c.before.before.before.before.before.before.before.before.before.before.before.before in
-    let ps = e.args.posts.now in
+    let ps = c.args.posts.now in
     let h : c.few-n.result ≡ few_of (length ps) = c.few-n.ensures in
-    let l : c.few-n.result ≤ length c.locations.new.to.1.0 = omega (arith, h, (few_bounds (length ps)).1, c.locations.ensures.1) in
+    let l : c.few-n.result ≤ length c.locations.new.to = omega (arith, h, (few_bounds (length ps)).1, c.locations.ensures.1) in
     search (rules, l)
 
 pub returns : goal.returns
 unfolding moved_of unless
 returns c =
-    let w = c.before.before in
-    let o = c.before.before.before.before.before.before.before.before in
-    let n = c.before.before.before.before.before.before.before.before.before.before in
-    let b = c.before.before.before.before.before.before.before.before.before.before.before in
-    let x = c.before.before.before.before.before.before.before.before.before.before.before.before in
-    let h = c.before.before.before.before.before.before.before.before.before.before.before.before.before in
-    let e = c.before.before.before.before.before.before.before.before.before.before.before.before.before.before.before.before in
-    let z = c.before.before.before.before.before.before.before.before.before.before.before.before.before.before.before.before.before.before.before.before in
-    let t = z.args.t.now in
-    let s = z.args.s.now in
-    let g = z.args.pg.0 in
-    let a = z.args.action.1.0 in
-    let ps = z.args.posts.now in
-    let f : Fitting t s g = record { table = z.requires.0; state = z.requires.1; known = ltb-true _ _ (known (goal.at.returns c).Else-graph_count-g) } in
+    let t = c.args.t.now in
+    let s = c.args.s.now in
+    let g = c.args.pg.0 in
+    let a = c.args.action.1.0 in
+    let ps = c.args.posts.now in
+    let f : Fitting t s g = record { table = c.requires.0; state = c.requires.1; known = ltb-true _ _ (known (goal.at.returns c).Else-graph_count-g) } in
     let minus : c.few-n.result - 0 ≡ c.few-n.result = omega arith in
-    let same = ap (λ (k : ℕ). take k c.locations.new.to.1.0) minus ∙ c.locations.ensures.0
+    let same = ap (λ (k : ℕ). take k c.locations.new.to) minus ∙ c.locations.ensures.0
     ∙ ap (λ (k : ℕ). take k (locations_of ps)) (c.few-n.ensures ∙ ap few_of (sym (locations_length ps))) in
-    let moved = ap (λ (qs : List ℕ). step_as t s g a qs z.args.word (spoken_by t g a)) same
-    ∙ few_posts_lem t s g (few_processes f) a (locations_of ps) z.args.word (spoken_by t g a) in
+    let moved = ap (λ (qs : List ℕ). step_as t s g a qs c.args.word (spoken_by t g a)) same
+    ∙ few_posts_lem t s g (few_processes f) a (locations_of ps) c.args.word (spoken_by t g a) in
     rw (known (goal.at.returns c).Else-graph_count-g, eq-eqb _ _ c.if-owner-g.false, held c.own.ensures c.if-not-own.false-raw)
-    (subst (DidMove w.step_as.result w.step_as.new.s.0) moved w.step_as.ensures)
+    (subst (DidMove c.step_as.result c.step_as.new.s) moved c.step_as.ensures)

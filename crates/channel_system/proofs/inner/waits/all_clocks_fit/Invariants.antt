@@ -1,12 +1,7 @@
 use Prim.Native.Nat.{◌-◌, ◌≤◌}
 use mathlib.Core.Path.{◌≡◌}
 use mathlib.Core.Bool.{true}
-use native.Mathlib.Omega.{arith}
-use borrow.Author.Rules.{rules}
 use Rattle.laws.specs.Below.{all_below}
-use Rattle.laws.proofs.BelowLaws.{all_none, all_more}
-use Rattle.laws.proofs.Tests.{held}
-use Rattle.graph_tables.proofs.FormedLaws.{turn_fails, turns_end}
 use Rattle.system_tables.specs.Words.{graph_count}
 use Rattle.channel_system.specs.Waits.{clocks_fit}
 use Rattle.channel_system.proofs.inner.waits.all_clocks_fit.Given as goal

@@ -1,5 +1,4 @@
 use native.Mathlib.Omega.{arith}
-use borrow.Author.Rules.{rules}
 use borrow.Author.Tests.{le-leb, lt-leb}
 use Rattle.laws.proofs.BelowLaws.{and_yes, and_no}
 use Rattle.channel_system.specs.Waits.{all_fit}
@@ -7,8 +6,7 @@ use Rattle.channel_system.proofs.inner.waits.all_fit.Goals as goal
 
 pub overflow_add-time_of : goal.overflow_add-time_of
 overflow_add-time_of c =
-    let z = c.before.before.before in
-    omega (arith, c.time_of.ensures, z.requires.1.time)
+    omega (arith, c.time_of.ensures, c.requires.1.time)
 
 pub returns-then-time_of-delta : goal.returns-then-time_of-delta
 unfolding all_fit
@@ -17,5 +15,4 @@ returns-then-time_of-delta c = and_no _ (lt-leb _ _ (rw c.time_of.ensures at c.i
 pub returns : goal.returns
 unfolding all_fit
 returns c =
-    let e = c.before in
-    and_yes (le-leb _ _ (rw e.time_of.ensures at e.if-time_of-delta.false)) c.all_clocks_fit.ensures
+    and_yes (le-leb _ _ (rw c.time_of.ensures at c.if-time_of-delta.false)) c.all_clocks_fit.ensures

@@ -1,10 +1,7 @@
 use Prim.Native.Nat.{◌-◌, ◌≤◌}
-use mathlib.Core.Path.{◌≡◌, sym, ◌∙◌}
+use mathlib.Core.Path.{◌≡◌}
 use mathlib.Core.Bool.{false}
-use native.Mathlib.Omega.{arith}
-use borrow.Author.Rules.{rules}
 use Rattle.laws.specs.Below.{any_below}
-use Rattle.run_steps.proofs.AnyLaws.{any_none, any_more, any_found, any_done}
 use Rattle.system_tables.specs.Words.{graph_count}
 use Rattle.channel_system.specs.Waits.{graph_waits}
 use Rattle.channel_system.proofs.inner.waits.any_waits.Given as goal

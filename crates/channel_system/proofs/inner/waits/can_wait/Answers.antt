@@ -1,6 +1,3 @@
-use mathlib.Core.Path.{sym, ◌∙◌}
-use native.Mathlib.Omega.{arith}
-use borrow.Author.Rules.{rules}
 use Rattle.laws.proofs.BelowLaws.{and_yes, and_no}
 use Rattle.laws.proofs.Tests.{held, failed}
 use Rattle.channel_system.specs.Waits.{wait_open}
@@ -13,13 +10,10 @@ returns-then-not-all_fit c = and_no _ (failed c.all_fit.ensures c.if-not-all_fit
 
 pub objector-requires : goal.objector-requires
 objector-requires c =
-    let z = c.before.before.before.before in
-    (z.requires.0, z.requires.1, held c.all_fit.ensures c.if-not-all_fit.false-raw)
+    (c.requires.0, c.requires.1, held c.all_fit.ensures c.if-not-all_fit.false-raw)
 
 pub returns : goal.returns
 unfolding wait_open
 returns c =
-    let o = c.before in
-    let e = c.before.before in
-    and_yes (held e.all_fit.ensures e.if-not-all_fit.false-raw)
-    (rw (o.objector.ensures, c.graph_count.ensures) (lowest_tells _ _))
+    and_yes (held c.all_fit.ensures c.if-not-all_fit.false-raw)
+    (rw (c.objector.ensures, c.graph_count.ensures) (lowest_tells _ _))

@@ -1,4 +1,3 @@
-use borrow.Author.Rules.{rules}
 use Rattle.laws.proofs.BelowLaws.{and_yes, and_no}
 use Rattle.laws.proofs.Tests.{held, failed}
 use Rattle.channel_system.specs.Waits.{system_waits}
@@ -11,5 +10,4 @@ returns-then-not-can_wait c = and_no _ (failed c.can_wait.ensures c.if-not-can_w
 pub returns : goal.returns
 unfolding system_waits
 returns c =
-    let e = c.before in
-    and_yes (held e.can_wait.ensures e.if-not-can_wait.false-raw) c.any_waits.ensures
+    and_yes (held c.can_wait.ensures c.if-not-can_wait.false-raw) c.any_waits.ensures

@@ -1,4 +1,4 @@
-use Prim.Native.Nat.{◌+◌, ◌-◌, ◌≤◌, ◌<◌}
+use Prim.Native.Nat.{◌+◌, ◌≤◌, ◌<◌}
 use mathlib.Core.Path.{◌≡◌, refl, sym, ap, subst, ◌∙◌}
 use mathlib.Core.Bool.{true}
 use native.Mathlib.Omega.{arith}
@@ -16,37 +16,28 @@ loop-g-init c = (search rules, c.graph_count-g-end.ensures, c.requires.1, refl)
 
 pub later_on-requires : goal.later_on-requires
 later_on-requires c =
-    let i = c.before in
-    let l = c.before.before in
-    let z = c.before.before.before.before.before.before in
-    let known : l.loop-g.g < graph_count z.args.t.now = rw l.loop-g.invariant.1 at i.loop-g-test.true in
-    let fits = still_fits z.args.t.now z.requires.0 z.args.s.now z.requires.1 z.args.delta z.requires.2 l.loop-g.g known in (
-      record { table = z.requires.0; state = l.loop-g.invariant.2; known = known },
-      subst (λ x. clocks_fit x z.args.delta l.loop-g.g ≡ true) (sym l.loop-g.invariant.3) fits,
+    let known : c.loop-g.g < graph_count c.args.t.now = rw c.loop-g.invariant.1 at c.loop-g-test.true in
+    let fits = still_fits c.args.t.now c.requires.0 c.args.s.now c.requires.1 c.args.delta c.requires.2 c.loop-g.g known in (
+      record { table = c.requires.0; state = c.loop-g.invariant.2; known = known },
+      subst (λ x. clocks_fit x c.args.delta c.loop-g.g ≡ true) (sym c.loop-g.invariant.3) fits,
     )
 
 pub loop-g-preserved : goal.loop-g-preserved
 unfolding later_below
 loop-g-preserved c =
-    let f = c.before.before in
-    let i = c.before.before.before.before in
-    let l = c.before.before.before.before.before in
-    let z = c.before.before.before.before.before.before.before.before.before in
-    let t = z.args.t.now in
-    let n : l.loop-g.g + 1 ≤ graph_count t = omega (arith, i.loop-g-test.true, l.loop-g.invariant.1) in
-    let step : f.later_on.new.s.0 ≡ later_below t z.args.s.now z.args.delta (l.loop-g.g + 1) =
-    rw add-one (f.later_on.ensures ∙ ap (λ x. later_on t x z.args.delta l.loop-g.g) l.loop-g.invariant.3)
+    let t = c.args.t.now in
+    let n : c.loop-g.g + 1 ≤ graph_count t = omega (arith, c.loop-g-test.true, c.loop-g.invariant.1) in
+    let step : c.later_on.new.s ≡ later_below t c.args.s.now c.args.delta (c.loop-g.g + 1) =
+    rw add-one (c.later_on.ensures ∙ ap (λ x. later_on t x c.args.delta c.loop-g.g) c.loop-g.invariant.3)
     in (
       omega arith,
-      l.loop-g.invariant.1,
+      c.loop-g.invariant.1,
       subst (StateSound t) (sym step)
-          (moving t z.requires.0 z.args.s.now z.requires.1 z.args.delta z.requires.2 (l.loop-g.g + 1) n).state,
+          (moving t c.requires.0 c.args.s.now c.requires.1 c.args.delta c.requires.2 (c.loop-g.g + 1) n).state,
       step,
     )
 
 pub returns : goal.returns
 returns c =
-    let l = c.before in
-    let z = c.before.before.before.before.before in
-    let e : l.loop-g.g ≡ graph_count z.args.t.now = omega (arith, l.loop-g.invariant.1) in
-    l.loop-g.invariant.3 ∙ ap (later_below z.args.t.now z.args.s.now z.args.delta) e
+    let e : c.loop-g.g ≡ graph_count c.args.t.now = omega (arith, c.loop-g.invariant.1) in
+    c.loop-g.invariant.3 ∙ ap (later_below c.args.t.now c.args.s.now c.args.delta) e

@@ -1,13 +1,8 @@
-use Prim.Native.Nat.{◌+◌, ◌-◌, ◌≤◌, ◌<◌}
-use mathlib.Core.Path.{◌≡◌, refl, sym, ap, subst, ◌∙◌}
-use mathlib.Core.Bool.{true}
-use native.Mathlib.Omega.{arith}
-use native.Mathlib.Numerals.{add-one}
-use borrow.Author.Rules.{rules}
+use Prim.Native.Nat.{◌-◌, ◌≤◌}
+use mathlib.Core.Path.{◌≡◌}
 use Rattle.system_tables.specs.Words.{graph_count}
 use Rattle.system_state.specs.Fits.{StateSound}
-use Rattle.channel_system.specs.Waits.{clocks_fit, later_on, later_below}
-use Rattle.channel_system.proofs.LaterLaws.{moving, still_fits}
+use Rattle.channel_system.specs.Waits.{later_below}
 use Rattle.channel_system.proofs.inner.waits.later_graphs.Given as goal
 
 abbrev pub invariant-loop-g : goal.invariant-loop-g

@@ -1,9 +1,8 @@
-use Prim.Native.Nat.{ℕ, ◌≤◌, ◌<◌}
-use mathlib.Core.Path.{◌≡◌, refl, ap, ◌∙◌}
-use mathlib.Core.Bool.{true, false}
+use Prim.Native.Nat.{ℕ, ◌≤◌}
+use mathlib.Core.Path.{◌≡◌, refl, ap}
+use mathlib.Core.Bool.{false}
 use native.Mathlib.Nat.{le_antisymm}
 use native.Mathlib.Omega.{arith}
-use borrow.Author.Rules.{rules}
 use Rattle.laws.specs.Ladder.{unless}
 use Rattle.laws.specs.Below.{all_below}
 use Rattle.laws.proofs.Tests.{held, failed}
@@ -20,48 +19,32 @@ returns-then-not-all_fit c = rw (failed c.all_fit.ensures c.if-not-all_fit.true-
 
 pub objector-g-requires : goal.objector-g-requires
 objector-g-requires c =
-    let e = c.before in
-    let z = c.before.before.before.before in
-    (z.requires.0, z.requires.1, held e.all_fit.ensures c.if-not-all_fit.false-raw)
+    (c.requires.0, c.requires.1, held c.all_fit.ensures c.if-not-all_fit.false-raw)
 
 pub overflow_cast-result : goal.overflow_cast-result
 overflow_cast-result c =
-    let n = c.before in
-    let z = c.before.before.before.before.before.before.before in
-    omega (arith, c.if-g-graph_count.true, n.graph_count.ensures, z.requires.0.graphs)
+    omega (arith, c.if-g-graph_count.true, c.graph_count.ensures, c.requires.0.graphs)
 
 pub returns-then-g-graph_count : goal.returns-then-g-graph_count
 unfolding passed_of unless
 returns-then-g-graph_count c =
-    let n = c.before in
-    let o = c.before.before in
-    let e = c.before.before.before.before in
-    let z = c.before.before.before.before.before.before.before in
-    let t = z.args.t.now in
-    let holds = graph_holds t z.args.s.now z.args.delta in
+    let t = c.args.t.now in
+    let holds = graph_holds t c.args.s.now c.args.delta in
     let some : all_below (graph_count t) holds ≡ false =
-    lowest_some holds (graph_count t) (rw (o.objector-g.ensures, n.graph_count.ensures) at c.if-g-graph_count.true)
+    lowest_some holds (graph_count t) (rw (c.objector-g.ensures, c.graph_count.ensures) at c.if-g-graph_count.true)
     in
-    rw (held e.all_fit.ensures c.if-not-all_fit.false-raw, some)
-    (ap (λ (k : ℕ). Invariant (record { 0 = k })) o.objector-g.ensures, refl)
+    rw (held c.all_fit.ensures c.if-not-all_fit.false-raw, some)
+    (ap (λ (k : ℕ). Invariant (record { 0 = k })) c.objector-g.ensures, refl)
 
 pub later-requires : goal.later-requires
 later-requires c =
-    let e = c.before.before.before.before.before in
-    let z = c.before.before.before.before.before.before.before.before in
-    (z.requires.0, z.requires.1, held e.all_fit.ensures c.if-not-all_fit.false-raw)
+    (c.requires.0, c.requires.1, held c.all_fit.ensures c.if-not-all_fit.false-raw)
 
 pub returns : goal.returns
 unfolding passed_of unless
 returns c =
-    let l = c.before.before in
-    let f = c.before.before.before.before in
-    let n = c.before.before.before.before.before in
-    let o = c.before.before.before.before.before.before in
-    let e = c.before.before.before.before.before.before.before.before in
-    let z = c.before.before.before.before.before.before.before.before.before.before.before in
-    let t = z.args.t.now in
-    let holds = graph_holds t z.args.s.now z.args.delta in
-    let past : graph_count t ≤ lowest (graph_count t) holds = rw (o.objector-g.ensures, n.graph_count.ensures) at f.if-g-graph_count.false in
+    let t = c.args.t.now in
+    let holds = graph_holds t c.args.s.now c.args.delta in
+    let past : graph_count t ≤ lowest (graph_count t) holds = rw (c.objector-g.ensures, c.graph_count.ensures) at c.if-g-graph_count.false in
     let all = lowest_all holds (graph_count t) (le_antisymm (lowest_says holds (graph_count t)).low past) in
-    rw (held e.all_fit.ensures c.if-not-all_fit.false-raw, all) (refl, l.later.ensures)
+    rw (held c.all_fit.ensures c.if-not-all_fit.false-raw, all) (refl, c.later.ensures)
