@@ -118,6 +118,6 @@ module _ (t : List ℕ) (s : Sound t) where
       let count : process_count u ≡ p = process_count_lem u (place_at t) p (ap (λ (g : Graph). g.processes) e) in
       process_ok u f (place_at t p) (omega (arith, so.place))
       (zero_same t u (place_at t p) (same_row (invariants_of u) (invariants_of t) _ _ there (place_at t p) (omega (arith, so.place)))
-      so.zero_inside_lem)
+      so.zero_in_range)
       (omega (arith, s.counts.processes)))
       (ap (processes_now (some_locations t (location_count t))) (sym (list_last (place_at t) p))))

@@ -73,7 +73,7 @@ unfolding process_formed zero_inside
 process t p h =
     record {
       place = ltb-true _ _ (and_first _ _ h);
-      zero_inside_lem = λ i l. all_at (zero_inside t (invariant_group (place_at t p))) _ i (and_rest _ _ h) l;
+      zero_in_range = λ i l. all_at (zero_inside t (invariant_group (place_at t p))) _ i (and_rest _ _ h) l;
     }
 
 -- ---- actions

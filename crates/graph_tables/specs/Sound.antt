@@ -59,7 +59,7 @@ pub record ProcessSound (t : List ℕ) (p : ℕ) : Type 0 where
   -- it starts at a known location
   pub place : place_at t p < location_count t
   -- whose invariants contain time 0
-  pub zero_inside_lem : (i : ℕ) → i < invariant_count t (place_at t p) → in_range (limit_range t (invariant_group (place_at t p)) i) 0 ≡ true
+  pub zero_in_range : (i : ℕ) → i < invariant_count t (place_at t p) → in_range (limit_range t (invariant_group (place_at t p)) i) 0 ≡ true
 
 -- the resets of action a
 pub record ResetsSound (t : List ℕ) (a : ℕ) : Type 0 where

@@ -93,4 +93,4 @@ module _ (t : List ℕ) (sound : Sound t) (r : List ℕ) (words : RunWords r) wh
       let at = sound.process p few in
       rw (fresh_place t sound r words p few) (λ i m.
       let known = (sound.invariants (place_at t p) at.place).clock i m in
-      rw (fresh_time t sound r words (clock_of t (invariant_group (place_at t p)) i) known) (at.zero_inside_lem i m))
+      rw (fresh_time t sound r words (clock_of t (invariant_group (place_at t p)) i) known) (at.zero_in_range i m))

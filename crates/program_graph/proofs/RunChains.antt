@@ -188,7 +188,7 @@ module _ (t : List ℕ) (formed : well_formed t false ≡ true) where
       subst (λ (x : ℕ). InvariantsAt t (replicate clock_room 0) x) (sym (start_at t (process_count t) p l s.counts.processes)) (λ i k.
       subst (λ (x : ℕ). in_range (limit_range t (invariant_group (place_at t p)) i) x ≡ true)
       (sym (all_replicate (λ (x : ℕ). x ≡ 0) 0 clock_room 0 refl refl (clock_of t (invariant_group (place_at t p)) i)))
-      ((s.process p l).zero_inside_lem i k)))
+      ((s.process p l).zero_in_range i k)))
 
   -- After every chain of calls the run is one of its table's.
   pub chain_fits : (calls : List RunCall)

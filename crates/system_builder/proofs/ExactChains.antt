@@ -19,7 +19,7 @@ use Rattle.system_tables.specs.Formed.{system_formed}
 use Rattle.system_tables.specs.Sound.{MessageSound, ProbeSound, CommunicationSound}
 use Rattle.system_tables.proofs.FrameLaws.{CommunicationsSame, GraphSame}
 use Rattle.system_tables.proofs.KeptLaws.{Formed, apart, MessageSame, ActionSame, same_action}
-use Rattle.system_builder.specs.Chains.{OnGraph, after_on, answer_on, Fits, own_call, Call, on_graph_lem, after_all, AllFit}
+use Rattle.system_builder.specs.Chains.{OnGraph, after_on, answer_on, Fits, own_call, Call, call_on_graph, after_all, AllFit}
 use Rattle.system_builder.specs.Built.{AllAccepted, made_on, actions_after, all_on}
 use Rattle.system_builder.proofs.ActionLaws.{part_formed}
 use Rattle.system_builder.proofs.Theorems.{others_stay}
@@ -114,10 +114,10 @@ module _ (t : List ℕ) (f : Formed t true) where
   on_has u m n g c fit low out x =
       let o = others_stay u g c fit (apart u true x.formed).words in
       record {
-        formed = keeps_formed u (on_graph_lem g c) fit x.formed;
+        formed = keeps_formed u (call_on_graph g c) fit x.formed;
         channels = o.counts.channels ∙ x.channels;
         channel = λ q l.
-            channel_then q (x.channel q l) ((meaning_stays u (on_graph_lem g c) fit x.formed).channel q (omega (arith, l, x.channels)));
+            channel_then q (x.channel q l) ((meaning_stays u (call_on_graph g c) fit x.formed).channel q (omega (arith, l, x.channels)));
         graph = λ i l.
             let other : i ≡ g → ⊥ = λ e. omega (arith, l, out, e) in
             let known : i < graph_count t = omega (arith, l, low) in

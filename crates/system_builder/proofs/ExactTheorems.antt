@@ -26,7 +26,7 @@ use Rattle.system_builder.specs.Graphs.{member_check, only_if, var_type_in}
 use Rattle.system_builder.specs.Messages.{known_check, send_check_on, receive_check_on, new_send_on, new_receive_on, new_probe_on}
 use Rattle.system_builder.specs.Chains.{OnGraph, new_var, new_clock, new_action, new_process, add_reset, add_effect, new_timed_location}
 use Rattle.system_builder.specs.Chains.{new_initial_location, add_transition, new_send, new_receive, new_probe, answer_on}
-use Rattle.system_builder.specs.Chains.{Call, new_graph, new_channel, on_graph_lem, answer_of, after_all, AllFit}
+use Rattle.system_builder.specs.Chains.{Call, new_graph, new_channel, call_on_graph, answer_of, after_all, AllFit}
 use Rattle.system_builder.specs.Built.{AllAccepted, calls_of}
 use Rattle.system_builder.specs.Used.{BuiltBy, Buildable, Startable}
 use Rattle.system_builder.proofs.BuildTheorems.{no_graphs, no_channels, new_formed, all_started, for_a_run}
@@ -141,7 +141,7 @@ bad_call : (t : List ℕ) (c : Call) → system_formed t true ≡ false → answ
 unfolding new_graph_of new_channel_of graph_check channel_check
 bad_call t new_graph bad = bad_placed t _ _ _ bad
 bad_call t (new_channel k c) bad = bad_placed t _ _ _ bad
-bad_call t (on_graph_lem g c) bad = bad_on t g bad c
+bad_call t (call_on_graph g c) bad = bad_on t g bad c
 
 -- an answer that is 32 where a test fails, and nowhere else
 exactly : {B : Type 0} (test : Bool) → (test ≡ true) ↔ B → (answer : ℕ) → (test ≡ true → answer ≡ 32 → ⊥) → (test ≡ false → answer ≡ 32)

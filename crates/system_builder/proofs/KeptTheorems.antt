@@ -10,7 +10,7 @@ use Rattle.system_tables.specs.Formed.{system_formed}
 use Rattle.system_tables.proofs.KeptLaws.{apart, together}
 use Rattle.system_builder.specs.Systems.{empty_system_of, build_system_of}
 use Rattle.system_builder.specs.Graphs.{var_type_in}
-use Rattle.system_builder.specs.Chains.{Call, new_graph, new_channel, on_graph_lem, after, answer_of, CallFits, after_all, AllFit}
+use Rattle.system_builder.specs.Chains.{Call, new_graph, new_channel, call_on_graph, after, answer_of, CallFits, after_all, AllFit}
 use Rattle.system_builder.proofs.BuildTheorems.{new_formed}
 use Rattle.system_builder.proofs.FormedCalls.{on_formed}
 use Rattle.system_builder.proofs.NewMembers.{graph_formed_lem, channel_formed_lem}
@@ -20,7 +20,7 @@ use Rattle.system_builder.proofs.KnownCalls.{call_known, build_known, kind_known
 pub keeps_formed : (t : List ℕ) (c : Call) → CallFits c → system_formed t true ≡ true → system_formed (after t c) true ≡ true
 keeps_formed t new_graph fit h = together (after t new_graph) true (graph_formed_lem t (apart t true h))
 keeps_formed t (new_channel k c) fit h = together (after t (new_channel k c)) true (channel_formed_lem t k c fit (apart t true h))
-keeps_formed t (on_graph_lem g c) fit h = together (after t (on_graph_lem g c)) true (on_formed t (apart t true h) g c fit)
+keeps_formed t (call_on_graph g c) fit h = together (after t (call_on_graph g c)) true (on_formed t (apart t true h) g c fit)
 
 -- So does every chain of them.
 pub chain_keeps_formed : (t : List ℕ) (calls : List Call) → AllFit calls

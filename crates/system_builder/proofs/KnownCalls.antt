@@ -40,7 +40,7 @@ use Rattle.system_tables.specs.declared.ids.Message.TheVariants.{Send, Receive}
 use Rattle.system_builder.specs.Chains.{OnGraph, new_var, new_clock, new_action, new_process, add_reset, add_effect}
 use Rattle.system_builder.specs.Chains.{new_timed_location}
 use Rattle.system_builder.specs.Chains.{new_initial_location, add_transition, new_send, new_receive, new_probe, answer_on}
-use Rattle.system_builder.specs.Chains.{Call, new_graph, new_channel, on_graph_lem, answer_of}
+use Rattle.system_builder.specs.Chains.{Call, new_graph, new_channel, call_on_graph, answer_of}
 use Rattle.system_builder.proofs.SystemLaws.{member_ready}
 use Rattle.system_builder.proofs.ActionLaws.{part_formed}
 use Rattle.system_builder.proofs.MessageLaws.{known_member, send_known, receive_known}
@@ -142,7 +142,7 @@ module _ (t : List ℕ) (h : system_formed t true ≡ true) where
   unfolding new_graph_of new_channel_of
   call_known new_graph = own.known_placed (graph_check t) t _ _ graph_known
   call_known (new_channel k c) = own.known_placed (channel_check t k c) t _ _ (channel_known_lem k c)
-  call_known (on_graph_lem g c) = on_known g c
+  call_known (call_on_graph g c) = on_known g c
 
   -- Nor does `build`, or a question for the kind of a variable.
   pub build_known : done_number (build_system_of t) ≢ 32

@@ -29,7 +29,7 @@ use Rattle.system_tables.proofs.WordLaws.{communication_back}
 use Rattle.system_tables.proofs.KeptLaws.{Formed, apart, same_action, width_same, kind_same, sort_same, bound_same}
 use Rattle.system_builder.specs.declared.handed.Kinds.{Kinds}
 use Rattle.system_builder.specs.Systems.{graph_check, new_graph_of, with_new_graph, handed_kind, channel_check, new_channel_of, with_new_channel}
-use Rattle.system_builder.specs.Chains.{OnGraph, after_on, answer_on, Fits, Call, new_graph, new_channel, on_graph_lem, after, answer_of}
+use Rattle.system_builder.specs.Chains.{OnGraph, after_on, answer_on, Fits, Call, new_graph, new_channel, call_on_graph, after, answer_of}
 use Rattle.system_builder.specs.Chains.{CallFits, after_all, AllFit, own_call, Tells}
 use Rattle.system_builder.proofs.SystemLaws.{graph_ready, channel_ready}
 use Rattle.system_builder.proofs.ActionLaws.{part_formed}
@@ -125,7 +125,7 @@ meaning_stays t (new_channel k c) fit h =
       graph = λ g l. graph_stays t (with_new_channel t k c) f g l (channel_same t f k c fit s g l) (channel_messages t f k c fit s g);
       channel = λ q l. channel_stays t (with_new_channel t k c) f q l (channel_row_lem t f k c fit s q l);
     })
-meaning_stays t (on_graph_lem g c) fit h = on_stays t (apart t true h) g c fit
+meaning_stays t (call_on_graph g c) fit h = on_stays t (apart t true h) g c fit
 
 -- So it is under every chain of calls.
 pub chain_meaning_stays : (t : List ℕ) (calls : List Call) → AllFit calls → system_formed t true ≡ true → Stays t (after_all t calls)

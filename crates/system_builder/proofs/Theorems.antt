@@ -33,7 +33,7 @@ use Rattle.system_builder.specs.Graphs.{member_check, only_if, on_part, on_graph
 use Rattle.system_builder.specs.Messages.{known_check, send_check_on, receive_check_on, send_part, receive_part, no_values, new_send_on, new_receive_on, new_probe_on}
 use Rattle.system_builder.specs.Chains.{OnGraph, new_var, new_clock, new_action, new_process, add_reset, add_effect, new_timed_location}
 use Rattle.system_builder.specs.Chains.{new_initial_location, add_transition, new_send, new_receive, new_probe, after_on, answer_on, Fits}
-use Rattle.system_builder.specs.Chains.{Call, new_graph, new_channel, on_graph_lem, after, answer_of}
+use Rattle.system_builder.specs.Chains.{Call, new_graph, new_channel, call_on_graph, after, answer_of}
 use Rattle.system_builder.proofs.SystemLaws.{member_ready}
 use Rattle.system_builder.proofs.ActionLaws.{PutsAction, action_puts, send_puts, receive_puts, part_formed, HasWord, has_word, checked_word}
 use Rattle.system_builder.proofs.MessageLaws.{known_member, send_known, receive_known}
@@ -112,7 +112,7 @@ pub refused_leaves : (t : List ℕ) (c : Call) → 0 < answer_of t c → after t
 unfolding new_graph_of new_channel_of
 refused_leaves t new_graph = placed (graph_check t) t _ _
 refused_leaves t (new_channel k c) = placed (channel_check t k c) t _ _
-refused_leaves t (on_graph_lem g c) = on_leaves t g c
+refused_leaves t (call_on_graph g c) = on_leaves t g c
 
 -- ---- a call on graph g writes in the row of that graph alone: its communications and its own words
 abbrev Row : List ℕ → List ℕ → ℕ → Type 0

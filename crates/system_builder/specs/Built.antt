@@ -11,7 +11,7 @@ use Rattle.system_tables.specs.declared.ids.Communication.TheVariants.{Plain, On
 use Rattle.system_builder.specs.Systems.{kinds_in}
 use Rattle.system_builder.specs.Chains.{OnGraph, new_var, new_clock, new_action, new_process, add_reset, add_effect, new_timed_location}
 use Rattle.system_builder.specs.Chains.{new_initial_location, add_transition, new_send, new_receive, new_probe}
-use Rattle.system_builder.specs.Chains.{Call, new_graph, new_channel, on_graph_lem, after, answer_of}
+use Rattle.system_builder.specs.Chains.{Call, new_graph, new_channel, call_on_graph, after, answer_of}
 
 -- ---- chains
 -- the calls of every number below n, in order
@@ -73,7 +73,7 @@ actions_after n (Own.add_transition pre a post guarded ws l) = n
 -- calls of graph g's own, made on it: actions have the communications that they have in t, from action n on
 abbrev pub all_on : List ℕ → ℕ → ℕ → List Own.Call → List Call
 all_on t g n [] = []
-all_on t g n (c ∷ calls) = on_graph_lem g (made_on (communication_of t g n) c) ∷ all_on t g (actions_after n c) calls
+all_on t g n (c ∷ calls) = call_on_graph g (made_on (communication_of t g n) c) ∷ all_on t g (actions_after n c) calls
 
 -- ---- a graph: it is added, then built
 abbrev pub graph_calls : List ℕ → ℕ → List Call

@@ -39,7 +39,7 @@ pub data OnGraph : Type 0 where
 pub data Call : Type 0 where
   new_graph : Call
   new_channel : Kinds → ChannelCapacity → Call
-  on_graph_lem : ℕ → OnGraph → Call
+  call_on_graph : ℕ → OnGraph → Call
 
 -- the table after a call
 abbrev pub after_on : List ℕ → ℕ → OnGraph → List ℕ
@@ -59,7 +59,7 @@ after_on t g (new_probe k q) = (new_probe_on t g k q).table
 abbrev pub after : List ℕ → Call → List ℕ
 after t new_graph = (new_graph_of t).table
 after t (new_channel k c) = (new_channel_of t k c).table
-after t (on_graph_lem g c) = after_on t g c
+after t (call_on_graph g c) = after_on t g c
 
 -- a probe is of one of two kinds
 abbrev pub IsProbe : Message → Type 0
@@ -92,7 +92,7 @@ Fits (new_probe k q) = IsProbe k
 abbrev pub CallFits : Call → Type 0
 CallFits new_graph = Unit {0}
 CallFits (new_channel k c) = CapacityFits c
-CallFits (on_graph_lem g c) = Fits c
+CallFits (call_on_graph g c) = Fits c
 
 -- the number of its answer: 0 for ok, else the refusal's
 abbrev pub answer_on : List ℕ → ℕ → OnGraph → ℕ
@@ -112,7 +112,7 @@ answer_on t g (new_probe k q) = placed_number (new_probe_on t g k q).answer
 abbrev pub answer_of : List ℕ → Call → ℕ
 answer_of t new_graph = placed_number (new_graph_of t).answer
 answer_of t (new_channel k c) = placed_number (new_channel_of t k c).answer
-answer_of t (on_graph_lem g c) = answer_on t g c
+answer_of t (call_on_graph g c) = answer_on t g c
 
 -- ---- one call after the other
 abbrev pub after_all : List ℕ → List Call → List ℕ
