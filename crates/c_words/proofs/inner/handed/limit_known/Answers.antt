@@ -23,5 +23,5 @@ pub returns : goal.returns
 unfolding limit_known
 returns c =
     let e = c.before.before in
-    let z = e.before.before.before.before.before.before in
+    let z = c.before.before.before.before.before.before.before.before in
     and_yes (lt-ltb (get_or z.args.ws.now (3 * z.args.i) 0) word32 (omega arith)) (and_yes (held e.bound_known.ensures e.if-not-bound_known.false-raw) c.bound_known-2.ensures)

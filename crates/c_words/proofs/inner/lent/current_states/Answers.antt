@@ -18,16 +18,16 @@ pub returns : goal.returns
 unfolding states_at states_of unless
 returns c =
     let v2 = c.before.before in
-    let v3 = v2.before in
-    let v7 = v3.before.before.before.before in
-    let v8 = v7.before in
-    let v12 = v8.before.before.before.before in
-    let v13 = v12.before in
-    let v17 = v13.before.before.before.before in
-    let v18 = v17.before in
-    let v22 = v18.before.before.before.before in
-    let v23 = v22.before in
-    let e = v23.before.before in
+    let v3 = c.before.before.before in
+    let v7 = c.before.before.before.before.before.before.before in
+    let v8 = c.before.before.before.before.before.before.before.before in
+    let v12 = c.before.before.before.before.before.before.before.before.before.before.before.before in
+    let v13 = c.before.before.before.before.before.before.before.before.before.before.before.before.before in
+    let v17 = c.before.before.before.before.before.before.before.before.before.before.before.before.before.before.before.before.before in
+    let v18 = c.before.before.before.before.before.before.before.before.before.before.before.before.before.before.before.before.before.before in
+    let v22 = c.before.before.before.before.before.before.before.before.before.before.before.before.before.before.before.before.before.before.before.before.before.before in
+    let v23 = c.before.before.before.before.before.before.before.before.before.before.before.before.before.before.before.before.before.before.before.before.before.before.before in
+    let e = c.before.before.before.before.before.before.before.before.before.before.before.before.before.before.before.before.before.before.before.before.before.before.before.before.before in
     let r = e.args.r.now in
     let fit = held e.run_fits.ensures e.if-not-run_fits.false-raw in
     rw (

@@ -21,13 +21,13 @@ returns-then-r-ne-WORDS c =
 pub fresh_words-requires : goal.fresh_words-requires
 fresh_words-requires c =
     let f = c.before in
-    let e = f.before in
+    let e = c.before.before in
     (sound _ false (held e.well_formed-2.ensures e.if-not-well_formed.false-raw), f.if-r-ne-WORDS.false)
 
 pub returns : goal.returns
 unfolding new_run_at unless
 returns c =
     let w = c.before.before in
-    let f = w.before.before in
-    let e = f.before in
+    let f = c.before.before.before.before in
+    let e = c.before.before.before.before.before in
     rw (held e.well_formed-2.ensures e.if-not-well_formed.false-raw, eq-eqb _ _ f.if-r-ne-WORDS.false) (refl, w.fresh_words.ensures)

@@ -16,7 +16,7 @@ pub returns-then-word_at-ne1 : goal.returns-then-word_at-ne1
 unfolding nosync_at nosync_of
 returns-then-word_at-ne1 c =
     let p = c.before in
-    let e = p.before in
+    let e = c.before.before in
     let fit = held e.run_fits.ensures e.if-not-run_fits.false-raw in
     passed _ fit (passed _ (fits_table_lem _ _ fit) (stopped _ _ (ne_eqb _ _ (λ q. c.if-word_at-ne1.true (p.word_at.ensures ∙ q)))))
 
@@ -30,7 +30,7 @@ pub returns : goal.returns
 unfolding nosync_at nosync_of
 returns c =
     let f = c.before in
-    let p = f.before in
-    let e = p.before in
+    let p = c.before.before in
+    let e = c.before.before.before in
     let fit = held e.run_fits.ensures e.if-not-run_fits.false-raw in
     passed _ fit (passed _ (fits_table_lem _ _ fit) (passed _ (eq-eqb _ _ (sym p.word_at.ensures ∙ f.if-word_at-ne1.false)) c.listed_on.ensures))

@@ -20,6 +20,6 @@ pub returns : goal.returns
 unfolding moved_as unless
 returns c =
     let w = c.before.before in
-    let e = w.before.before in
+    let e = c.before.before.before.before in
     let fit = held e.run_fits.ensures e.if-not-run_fits.false-raw in
     rw fit (receive_left _ _ fit _ _ _ _ _ w.receive_on.ensures)

@@ -26,5 +26,5 @@ pub returns : goal.returns
 unfolding run_fits
 returns c =
     let f = c.before in
-    let e = f.before in
+    let e = c.before.before in
     and_yes (held e.well_formed-2.ensures e.if-not-well_formed.false-raw) (and_yes (eq-eqb _ _ f.if-r-ne-WORDS.false) c.run_words_fit.ensures)

@@ -24,8 +24,8 @@ pub returns-then-clock_count-c : goal.returns-then-clock_count-c
 unfolding time_at time_of unless
 returns-then-clock_count-c c =
     let i = c.before in
-    let n = i.before in
-    let e = n.before in
+    let n = c.before.before in
+    let e = c.before.before.before in
     let fit = held e.run_fits.ensures e.if-not-run_fits.false-raw in
     rw (c.number-then-clock_count-c.ensures, fit, fits_table_lem _ _ fit, le-ltb _ _ (rw n.clock_count.ensures at i.if-clock_count-c.true)) (refl, refl)
 
@@ -33,12 +33,12 @@ pub returns : goal.returns
 unfolding time_at time_of unless
 returns c =
     let p = c.before.before in
-    let w = p.before in
-    let f = w.before.before in
-    let n = f.before in
-    let e = n.before in
+    let w = c.before.before.before in
+    let f = c.before.before.before.before.before in
+    let n = c.before.before.before.before.before.before in
+    let e = c.before.before.before.before.before.before.before in
     let fit = held e.run_fits.ensures e.if-not-run_fits.false-raw in
-    let z = e.before.before.before.before.before in
+    let z = c.before.before.before.before.before.before.before.before.before.before.before.before in
     let few : z.args.clock < clock_room = omega (arith, f.if-clock_count-c.false, n.clock_count.ensures, (table_sound _ _ fit).counts.clocks) in
     rw (p.put.ensures, w.word_at.ensures, fit, fits_table_lem _ _ fit, lt-ltb _ _ (rw n.clock_count.ensures at f.if-clock_count-c.false), clock_here z.args.r.now z.args.clock few)
     (refl, refl)

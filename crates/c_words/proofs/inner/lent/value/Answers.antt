@@ -24,7 +24,7 @@ pub returns-then-variable_count-v : goal.returns-then-variable_count-v
 unfolding value_at value_in
 returns-then-variable_count-v c =
     let n = c.before in
-    let e = n.before in
+    let e = c.before.before in
     let fit = held e.run_fits.ensures e.if-not-run_fits.false-raw in
     passed (Value.Refused (refusal 32)) fit
     (passed (Value.Refused (refusal 32)) (fits_table_lem _ _ fit)
@@ -33,40 +33,40 @@ returns-then-variable_count-v c =
 pub overflow_mul-v : goal.overflow_mul-v
 overflow_mul-v c =
     let f = c in
-    let n = f.before in
-    let e = n.before in
+    let n = c.before in
+    let e = c.before.before in
     let s = table_sound _ _ (held e.run_fits.ensures e.if-not-run_fits.false-raw) in
     omega (arith, f.if-variable_count-v.false, n.variable_count.ensures, s.counts.variables)
 
 pub overflow_add-v : goal.overflow_add-v
 overflow_add-v c =
     let f = c in
-    let n = f.before in
-    let e = n.before in
+    let n = c.before in
+    let e = c.before.before in
     let s = table_sound _ _ (held e.run_fits.ensures e.if-not-run_fits.false-raw) in
     omega (arith, f.if-variable_count-v.false, n.variable_count.ensures, s.counts.variables)
 
 pub overflow_mul-v-2 : goal.overflow_mul-v-2
 overflow_mul-v-2 c =
     let f = c.before in
-    let n = f.before in
-    let e = n.before in
+    let n = c.before.before in
+    let e = c.before.before.before in
     let s = table_sound _ _ (held e.run_fits.ensures e.if-not-run_fits.false-raw) in
     omega (arith, f.if-variable_count-v.false, n.variable_count.ensures, s.counts.variables)
 
 pub overflow_add-v-2 : goal.overflow_add-v-2
 overflow_add-v-2 c =
     let f = c.before in
-    let n = f.before in
-    let e = n.before in
+    let n = c.before.before in
+    let e = c.before.before.before in
     let s = table_sound _ _ (held e.run_fits.ensures e.if-not-run_fits.false-raw) in
     omega (arith, f.if-variable_count-v.false, n.variable_count.ensures, s.counts.variables)
 
 pub overflow_add-v-3 : goal.overflow_add-v-3
 overflow_add-v-3 c =
     let f = c.before in
-    let n = f.before in
-    let e = n.before in
+    let n = c.before.before in
+    let e = c.before.before.before in
     let s = table_sound _ _ (held e.run_fits.ensures e.if-not-run_fits.false-raw) in
     omega (arith, f.if-variable_count-v.false, n.variable_count.ensures, s.counts.variables)
 
@@ -74,12 +74,12 @@ pub returns : goal.returns
 unfolding value_at value_in
 returns c =
     let b = c.before in
-    let a = b.before in
-    let f = a.before in
-    let n = f.before in
-    let e = n.before in
+    let a = c.before.before in
+    let f = c.before.before.before in
+    let n = c.before.before.before.before in
+    let e = c.before.before.before.before.before in
     let fit = held e.run_fits.ensures e.if-not-run_fits.false-raw in
-    let z = e.before.before.before.before in
+    let z = c.before.before.before.before.before.before.before.before.before in
     let few : z.args.var < variable_room = omega (arith, f.if-variable_count-v.false, n.variable_count.ensures, (table_sound _ _ fit).counts.variables) in
     passed (Value.Refused (refusal 32)) fit
     (passed (Value.Refused (refusal 32)) (fits_table_lem _ _ fit)
