@@ -1,12 +1,9 @@
 -- Candidates by their keys: the first of a process is the first transition of one key.
 use Prim.Native.Nat.{ℕ, ◌<◌}
-use mathlib.Core.Path.{◌≡◌, refl, sym, ap, ◌∙◌}
+use mathlib.Core.Path.{◌≡◌, refl, ap}
 use mathlib.Core.Bool.{Bool, true, false, not}
 use mathlib.Core.List.{List}
-use native.Mathlib.Decide.{ℕ_discrete}
-use borrow.Author.Tests.{eqb-true, eq-eqb, ne_eqb, not-true, not-false}
-use lib.Dec.{eqb}
-use Rattle.laws.specs.Below.{◌and◌}
+use borrow.Author.Tests.{eqb-true, eq-eqb}
 use Rattle.laws.proofs.BelowLaws.{and_first, and_rest, and_both}
 use Rattle.graph_tables.specs.Words.{transition_count, key_of, pre_of, action_of, post_of}
 use Rattle.run_steps.specs.Steps.{leaves_by}

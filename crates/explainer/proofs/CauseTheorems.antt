@@ -1,34 +1,32 @@
 -- The cause of an 8 is the real one, on the words of one graph and on a run.
 use Prim.Native.Nat.{ℕ, ◌+◌, ◌<◌, ◌≤◌}
-use mathlib.Core.Path.{◌≡◌, refl, sym, ap, subst, ◌∙◌}
-use mathlib.Core.Bool.{Bool, true, false, not}
+use mathlib.Core.Path.{◌≡◌, refl, sym, ◌∙◌}
+use mathlib.Core.Bool.{Bool, true, false}
 use mathlib.Core.List.{List}
 use mathlib.Core.Logic.{◌⊎◌, inl, inr, ⊎_elim}
 use native.Mathlib.Omega.{arith}
 use native.Mathlib.Nat.{eq-or-lt_of_le}
-use borrow.Author.Tests.{ltb-true, ltb-false, lt-ltb, not-true, not-false}
-use lib.Dec.{eqb, ltb}
-use lib.ListN.{length, get_or}
+use borrow.Author.Tests.{ltb-true, ltb-false, not-true, not-false}
+use lib.Dec.{ltb}
+use lib.ListN.{get_or}
 use Rattle.laws.specs.Ladder.{unless}
-use Rattle.laws.specs.Below.{◌and◌, all_below, any_below}
 use Rattle.laws.proofs.Tests.{never}
 use Rattle.laws.proofs.BelowLaws.{and_first, and_rest, and_both, all_at, all_from}
 use Rattle.laws.proofs.Copies.{one_more}
 use Rattle.graph_tables.specs.Words.{transition_count, invariant_count, key_of, limit_count, post_of, invariant_group}
-use Rattle.run_steps.specs.Lowest.{lowest}
-use Rattle.run_steps.specs.Steps.{limit_holds, limits_hold, invariants_hold, guard_holds, passes_of, failing_of, leaves_by, leads_of, process_ready, ready_of}
-use Rattle.run_steps.specs.Steps.{nothing_fails, guard_fails, limit_fails, invariant_fails}
+use Rattle.run_steps.specs.Steps.{limit_holds, limits_hold, invariants_hold, passes_of, failing_of, leads_of, process_ready, ready_of}
+use Rattle.run_steps.specs.Steps.{nothing_fails}
 use Rattle.run_steps.specs.Listing.{clocks_by}
 use Rattle.run_steps.proofs.LowestLaws.{lowest_says, lowest_all}
 use Rattle.run_steps.proofs.AnyLaws.{any_found}
 use Rattle.program_graph.specs.Facts.{Passing}
 use Rattle.program_graph.specs.declared.record.ProgramGraphRun.{ProgramGraphRun}
 use Rattle.program_graph.proofs.RunReady.{ready_exactly}
-use Rattle.explainer.specs.Cause.{ready_in, unready_of, candidate_of, other_than, first_of, number_for, no_candidate, failed_at, cause_from, cause_of}
-use Rattle.explainer.specs.Facts.{Asked, Standing, Candidate, FirstCandidate, FirstOutside, AllInside, Fails, Real}
+use Rattle.explainer.specs.Cause.{ready_in, unready_of, candidate_of, other_than, first_of, no_candidate, failed_at, cause_from, cause_of}
+use Rattle.explainer.specs.Facts.{Asked, Standing, Candidate, FirstCandidate, Fails, Real}
 use Rattle.explainer.specs.declared.causes.Cause.{Cause}
-use Rattle.explainer.proofs.CandidateLaws.{untrue, candidate, tested}
-use Rattle.explainer.proofs.FailureLaws.{Ways, failing_says, first_outside, number_limit, number_invariant}
+use Rattle.explainer.proofs.CandidateLaws.{candidate, tested}
+use Rattle.explainer.proofs.FailureLaws.{failing_says, first_outside, number_limit, number_invariant}
 
 -- ---- the process
 module _ (t : List ℕ) (run : ProgramGraphRun) (a : ℕ) (posts : List ℕ) (h : Asked t run a posts) where

@@ -1,22 +1,22 @@
 -- A graph's own plain step that answers 8: its posts are right, and some process has no candidate that passes.
-use Prim.Native.Nat.{ℕ, ◌<◌, ◌≤◌}
-use mathlib.Core.Path.{◌≡◌, refl, sym, ap, subst, ◌∙◌}
+use Prim.Native.Nat.{ℕ}
+use mathlib.Core.Path.{◌≡◌, refl, sym, subst}
 use mathlib.Core.Bool.{Bool, true, false, cond}
 use mathlib.Core.List.{List}
 use native.Mathlib.Omega.{arith}
-use borrow.Author.Tests.{eqb-true, eqb-false, ltb-true, lt-ltb, le-ltb}
+use borrow.Author.Tests.{eqb-true, ltb-true, le-ltb}
 use lib.Dec.{eqb, ltb}
-use lib.ListN.{length, get_or}
+use lib.ListN.{length}
 use Rattle.laws.specs.Ladder.{unless}
-use Rattle.laws.specs.Below.{◌and◌, all_below}
+use Rattle.laws.specs.Below.{all_below}
 use Rattle.laws.proofs.BelowLaws.{all_at, and_both, and_no}
 use Rattle.graph_tables.specs.Answers.{done_number}
 use Rattle.graph_tables.specs.Sizes.{plain_kind}
 use Rattle.graph_tables.specs.Sound.{Sound}
-use Rattle.graph_tables.specs.Words.{location_count, action_count, action_kind, epsilon}
+use Rattle.graph_tables.specs.Words.{action_count, action_kind, epsilon}
 use Rattle.run_steps.specs.Steps.{post_known, ready_of, is_kind, clocks_after, effected_of}
 use Rattle.run_steps.specs.Listing.{clocks_by}
-use Rattle.program_graph.specs.Running.{step_of, autonomous_of, acted_of, plain_of, ready_still, refused, accepted, moved_to}
+use Rattle.program_graph.specs.Running.{step_of, autonomous_of, acted_of, plain_of, ready_still, refused, accepted}
 use Rattle.program_graph.specs.declared.record.ProgramGraphRun.{ProgramGraphRun}
 use Rattle.program_graph.specs.declared.answers.Stepped.{Stepped}
 use Rattle.explainer.specs.Facts.{Asked}

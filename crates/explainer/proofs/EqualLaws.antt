@@ -1,26 +1,24 @@
 -- The test of the lent tables says exactly that they are the built ones, and so what a part of them has.
 use Prim.Native.Nat.{ℕ, zero, suc, ◌+◌, ◌*◌, ◌<◌, ◌≤◌}
-use mathlib.Core.Path.{◌≡◌, refl, sym, ap, subst, ◌∙◌}
-use mathlib.Core.Bool.{Bool, true, false}
-use mathlib.Core.List.{List, [], ◌∷◌}
+use mathlib.Core.Path.{◌≡◌, sym, ap, ◌∙◌}
+use mathlib.Core.Bool.{true}
+use mathlib.Core.List.{List}
 use mathlib.Core.Logic.{◌↔◌}
 use native.Mathlib.Omega.{arith}
 use borrow.Author.Tests.{eqb-true, eq-eqb}
-use lib.Dec.{eqb}
-use lib.ListN.{length, get_or, take, drop}
+use lib.ListN.{length, get_or, drop}
 use lib.Seq.{get_or-take, get_or-drop, ext_get_or}
 use Rattle.laws.specs.Below.{◌and◌, all_below}
 use Rattle.laws.proofs.BelowLaws.{and_first, and_rest, and_both, all_at, all_from}
 use Rattle.graph_tables.specs.Sizes.{transition_room, group_room}
 use Rattle.graph_tables.specs.Layout.{limit_width, group_start}
-use Rattle.graph_tables.specs.Words.{location_count, transition_count, invariant_count, guard_length, guard_items, limit_count, invariant_group, clock_of}
-use Rattle.graph_tables.specs.Words.{lower_of, upper_of}
+use Rattle.graph_tables.specs.Words.{location_count, transition_count, invariant_group}
 use Rattle.graph_tables.specs.Sound.{Sound, LimitsSound}
 use Rattle.run_steps.proofs.LimitLaws.{limits_of_transition, invariants_of_location}
 use Rattle.system_tables.specs.Sizes.{graph_room}
-use Rattle.system_tables.specs.Words.{graph_count, graph_part}
+use Rattle.system_tables.specs.Words.{graph_part}
 use Rattle.system_tables.specs.Sound.{SystemSound}
-use Rattle.explainer.specs.Layout.{all_guards, all_limits, guard_at, group_at, limit_at}
+use Rattle.explainer.specs.Layout.{all_guards, all_limits, group_at, limit_at}
 use Rattle.explainer.specs.Same.{part, word_same, all_same, guard_same, limits_same, transition_same, location_same, graph_same, tables_same}
 use Rattle.explainer.specs.Facts.{GraphEqual, Equal, limit_words_of}
 use Rattle.explainer.proofs.SameLaws.{part_length, guard_lent, guard_built, group_lent, group_built, same_lists}

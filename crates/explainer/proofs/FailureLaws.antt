@@ -1,17 +1,14 @@
 -- What a number for what fails of a candidate says.
-use Prim.Native.Nat.{ℕ, ◌<◌, ◌≤◌}
-use mathlib.Core.Path.{◌≡◌, refl, sym, ap, ◌∙◌}
-use mathlib.Core.Bool.{Bool, true, false, cond}
+use Prim.Native.Nat.{ℕ, ◌<◌}
+use mathlib.Core.Path.{◌≡◌, refl, sym, ◌∙◌}
+use mathlib.Core.Bool.{Bool, true, false}
 use mathlib.Core.List.{List}
 use mathlib.Core.Logic.{◌⊎◌, inl, inr, ⊎_elim}
 use native.Mathlib.Nat.{eq-or-lt_of_le}
-use native.Mathlib.Omega.{arith}
-use lib.Dec.{eqb}
 use Rattle.laws.specs.Ladder.{unless}
-use Rattle.laws.specs.Below.{all_below}
 use Rattle.laws.proofs.Tests.{never}
 use Rattle.grammar.specs.declared.values.Slot.{Slot}
-use Rattle.graph_tables.specs.Words.{transition_count, invariant_count, key_of, limit_count, post_of, invariant_group}
+use Rattle.graph_tables.specs.Words.{invariant_count, key_of, limit_count, post_of, invariant_group}
 use Rattle.run_steps.specs.Lowest.{lowest}
 use Rattle.run_steps.specs.Steps.{guard_holds, limit_holds, limits_hold, invariants_hold, failing_of}
 use Rattle.run_steps.specs.Steps.{nothing_fails, guard_fails, limit_fails, invariant_fails}

@@ -1,18 +1,17 @@
 -- The walk of a step on one process alone: the process is ready, as it is among all.
-use Prim.Native.Nat.{ℕ, ◌+◌, ◌*◌, ◌<◌, ◌≤◌}
+use Prim.Native.Nat.{ℕ, ◌+◌, ◌<◌}
 use mathlib.Core.Path.{◌≡◌, refl, sym, ap, subst, ◌∙◌}
-use mathlib.Core.Bool.{Bool, true}
 use mathlib.Core.List.{List}
 use native.Mathlib.Omega.{arith}
 use lib.ListN.{length, get_or, take, drop, length-drop}
 use lib.Seq.{length-take-le, get_or-take, get_or-drop}
-use Rattle.laws.specs.Below.{◌and◌, all_below, any_below}
+use Rattle.laws.specs.Below.{◌and◌, all_below}
 use Rattle.grammar.specs.declared.values.Slot.{Slot}
 use Rattle.graph_tables.specs.Sizes.{process_room}
-use Rattle.graph_tables.specs.RunWords.{RunWords, run_places_start, run_processes, places_in}
-use Rattle.graph_tables.specs.Words.{location_count, transition_count}
+use Rattle.graph_tables.specs.RunWords.{run_places_start, run_processes, places_in}
+use Rattle.graph_tables.specs.Words.{location_count}
 use Rattle.graph_tables.specs.Sound.{Sound}
-use Rattle.run_steps.specs.Steps.{leads_of, process_ready, ready_of}
+use Rattle.run_steps.specs.Steps.{process_ready, ready_of}
 use Rattle.program_graph.specs.Inner.{run_at, RunOf}
 use Rattle.program_graph.proofs.LeaveLaws.{few_places, places_known}
 

@@ -1,11 +1,11 @@
 -- Parts of lists, and lists with the same words.
 use Prim.Native.Nat.{ℕ, ◌+◌, ◌*◌, ◌<◌, ◌≤◌}
-use mathlib.Core.Path.{◌≡◌, sym, ap, ◌∙◌}
+use mathlib.Core.Path.{◌≡◌}
 use mathlib.Core.Bool.{true}
 use mathlib.Core.List.{List}
 use native.Mathlib.Omega.{arith}
 use borrow.Author.Tests.{eqb-true}
-use lib.ListN.{length, get_or, take, drop, length-drop}
+use lib.ListN.{length, drop, length-drop}
 use lib.Seq.{length-take-le, ext_get_or}
 use Rattle.laws.proofs.BelowLaws.{all_at}
 use Rattle.graph_tables.specs.Sizes.{transition_room, group_room, limit_room, item_room}

@@ -1,9 +1,9 @@
 -- What holds of the explainer (docs/RULES.md, 'Why a step answered 8').
-use Prim.Native.Nat.{ℕ, ◌+◌, ◌<◌, ◌≤◌}
+use Prim.Native.Nat.{ℕ, ◌<◌}
 use mathlib.Core.Path.{◌≡◌, refl, sym, ap, subst, ◌∙◌}
 use mathlib.Core.Bool.{Bool, true, false, cond}
-use mathlib.Core.List.{List, []}
-use mathlib.Core.Logic.{◌⊎◌, inl, inr, ⊎_elim, ◌↔◌}
+use mathlib.Core.List.{List}
+use mathlib.Core.Logic.{⊎_elim, ◌↔◌}
 use native.Mathlib.Omega.{arith}
 use native.Mathlib.Decide.{ℕ_discrete}
 use borrow.Author.Tests.{eqb-true, eq-eqb, ltb-true, lt-ltb}
@@ -17,28 +17,27 @@ use Rattle.graph_tables.specs.Answers.{done_number}
 use Rattle.graph_tables.specs.Words.{key_of, post_of, invariant_group}
 use Rattle.graph_tables.specs.Sound.{Sound}
 use Rattle.graph_tables.specs.declared.answers.Done.{Done}
-use Rattle.run_steps.specs.Steps.{nothing_fails, guard_fails, limit_fails, invariant_fails}
+use Rattle.run_steps.specs.Steps.{nothing_fails}
 use Rattle.run_steps.proofs.LimitLaws.{limits_of_transition, invariants_of_location}
 use Rattle.program_graph.specs.Running.{step_of}
 use Rattle.program_graph.specs.declared.record.ProgramGraphRun.{ProgramGraphRun}
 use Rattle.system_tables.specs.Sizes.{graph_room}
 use Rattle.system_tables.specs.Words.{graph_count, graph_part}
-use Rattle.system_tables.specs.declared.ids.Communication.{Communication}
 use Rattle.system_tables.specs.declared.ids.Communication.TheVariants.{Plain}
 use Rattle.channel_system.specs.Asked.{Answers, answer_of, Asked}
 use Rattle.channel_system.specs.Facts.{Fitting}
-use Rattle.channel_system.specs.Steps.{system_fits, own_post, locations_of, run_of, Moved, refused_step, plain_step, step_as, spoken_by, moved_of, transition_of}
+use Rattle.channel_system.specs.Steps.{system_fits, own_post, locations_of, run_of, Moved, refused_step, plain_step, spoken_by, moved_of, transition_of}
 use Rattle.channel_system.proofs.RunLaws.{small, part_sound}
 use Rattle.channel_system.proofs.FittingLaws.{fits_both}
-use Rattle.explainer.specs.Cause.{cause_of, place_of, no_part, no_candidate}
-use Rattle.explainer.specs.Same.{part, tables_same}
+use Rattle.explainer.specs.Cause.{cause_of, place_of}
+use Rattle.explainer.specs.Same.{tables_same}
 use Rattle.explainer.specs.Why.{unsatisfied, answered, caused, why_by, graph_why, plain_why, found_of, part_of}
-use Rattle.explainer.specs.Facts.{Real, Fails, Equal, GraphEqual, limit_words_of, built_of}
+use Rattle.explainer.specs.Facts.{Real, Equal, GraphEqual, built_of}
 use Rattle.explainer.specs.declared.causes.Cause.{Cause}
 use Rattle.explainer.specs.declared.causes.Found.{Found}
 use Rattle.explainer.proofs.EightLaws.{eight_asked}
 use Rattle.explainer.proofs.CauseTheorems.{cause_real, real_names}
-use Rattle.explainer.proofs.WhyLaws.{why_other, why_eight}
+use Rattle.explainer.proofs.WhyLaws.{why_eight}
 use Rattle.explainer.proofs.EqualLaws.{tables_exactly, limit_words_lem}
 
 -- ---- the part that is handed back has the words of the built table

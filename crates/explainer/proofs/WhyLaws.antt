@@ -1,14 +1,13 @@
 -- Laws of what the explainer finds: by the answer of the step, by few posts, and where the part stands.
-use Prim.Native.Nat.{ℕ, ◌+◌, ◌*◌, ◌<◌, ◌≤◌}
-use mathlib.Core.Path.{◌≡◌, refl, sym, ap, subst, ◌∙◌}
+use Prim.Native.Nat.{ℕ, ◌+◌, ◌<◌, ◌≤◌}
+use mathlib.Core.Path.{◌≡◌, refl, sym, ap}
 use mathlib.Core.Bool.{Bool, true, false, cond}
 use mathlib.Core.List.{List}
 use native.Mathlib.Omega.{arith}
 use borrow.Author.Tests.{eqb-true, eq-eqb, ne_eqb, ltb-true}
 use lib.Dec.{eqb, ltb}
 use lib.ListN.{length}
-use Rattle.laws.specs.Ladder.{unless}
-use Rattle.laws.specs.Below.{◌and◌, all_below}
+use Rattle.laws.specs.Below.{all_below}
 use Rattle.laws.proofs.Ladder.{stopped, rung}
 use Rattle.laws.proofs.BelowLaws.{and_first, and_rest}
 use Rattle.graph_tables.specs.Answers.{done_number}
@@ -17,9 +16,8 @@ use Rattle.graph_tables.specs.Layout.{limit_width}
 use Rattle.graph_tables.specs.Words.{key_of, post_of, guard_length, invariant_group}
 use Rattle.graph_tables.specs.Sound.{Sound}
 use Rattle.run_steps.specs.Steps.{guard_fails, limit_fails, invariant_fails}
-use Rattle.run_steps.proofs.LimitLaws.{limits_of_transition, invariants_of_location}
+use Rattle.run_steps.proofs.LimitLaws.{invariants_of_location}
 use Rattle.program_graph.specs.Running.{step_of, refused}
-use Rattle.program_graph.specs.declared.record.ProgramGraphRun.{ProgramGraphRun}
 use Rattle.program_graph.specs.declared.answers.Stepped.{Stepped}
 use Rattle.system_tables.specs.Sizes.{graph_room}
 use Rattle.system_tables.specs.Words.{graph_count, graph_part}
@@ -30,9 +28,9 @@ use Rattle.channel_system.proofs.PostLaws.{looked, few_same}
 use Rattle.channel_system.proofs.FittingLaws.{fits_both}
 use Rattle.explainer.specs.Layout.{all_guards, all_limits, guard_at, limit_at}
 use Rattle.explainer.specs.Cause.{cause_of, place_of, no_part}
-use Rattle.explainer.specs.Same.{tables_same, graph_same}
+use Rattle.explainer.specs.Same.{tables_same}
 use Rattle.explainer.specs.Why.{unsatisfied, answered, caused, why_by, graph_why, plain_why, found_of}
-use Rattle.explainer.specs.Facts.{Asked, Standing, Within, Real}
+use Rattle.explainer.specs.Facts.{Standing, Within}
 use Rattle.explainer.specs.declared.causes.Cause.{Cause}
 use Rattle.explainer.specs.declared.causes.Part.{Part}
 use Rattle.explainer.specs.declared.causes.Found.{Found}

@@ -7,7 +7,7 @@ use Rattle.graph_tables.specs.Words.{invariant_group, clock_of, lower_of, upper_
 use Rattle.graph_tables.specs.Layout.{limit_width, group_start}
 use Rattle.run_steps.specs.Steps.{guard_holds, guard_fails, limit_fails, invariant_fails}
 use Rattle.run_steps.specs.Listing.{clocks_by}
-use Rattle.program_graph.specs.Facts.{Passing, InvariantsAt}
+use Rattle.program_graph.specs.Facts.{Passing}
 use Rattle.program_graph.specs.declared.record.ProgramGraphRun.{ProgramGraphRun}
 use Rattle.system_tables.specs.Words.{graph_count, graph_part}
 use Rattle.explainer.specs.Layout.{all_guards, all_limits, guard_at, group_at}

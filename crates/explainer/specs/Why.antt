@@ -1,9 +1,8 @@
 -- Why a plain step answered 8 (docs/RULES.md, 'Why a step answered 8'): what the step answers, the cause if it is 8, and the part that fails.
-use Rattle.std.specs.Prelude.{ℕ, Bool, cond, List, [], ◌∷◌, eqb, ltb, length}
+use Rattle.std.specs.Prelude.{ℕ, cond, List, [], ◌∷◌, eqb, ltb, length}
 use Rattle.laws.specs.Ladder.{unless}
 use Rattle.laws.specs.Below.{all_below}
 use Rattle.graph_tables.specs.Answers.{done_number}
-use Rattle.graph_tables.specs.declared.answers.Done.{Done}
 use Rattle.run_steps.specs.Steps.{guard_fails}
 use Rattle.program_graph.specs.Running.{step_of}
 use Rattle.system_tables.specs.Words.{graph_count, graph_part}

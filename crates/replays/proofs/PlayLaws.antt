@@ -1,20 +1,17 @@
 -- One record more, one block more, and that the state stays one of the table's.
 use Prim.Native.Nat.{ℕ, zero, suc, ◌+◌, ◌-◌, ◌*◌, ◌≤◌, ◌<◌}
-use mathlib.Core.Path.{◌≡◌, refl, sym, ap, ◌∙◌, subst}
+use mathlib.Core.Path.{◌≡◌, refl, sym, ap, ◌∙◌}
 use mathlib.Core.Bool.{Bool, true, false, cond}
 use mathlib.Core.List.{List, [], ◌∷◌, ◌++◌}
-use native.Mathlib.Numerals.{add-one}
 use native.Mathlib.Omega.{arith}
 use lib.Dec.{eqb, leb}
 use lib.ListN.{length, take, drop}
 use borrow.Author.Tests.{eq-eqb, ne_eqb}
 use Rattle.laws.proofs.Tests.{never}
-use Rattle.laws.specs.Ladder.{unless}
 use Rattle.laws.proofs.Ladder.{passed, stopped, rung}
 use Rattle.laws.proofs.BelowLaws.{and_first}
 use Rattle.graph_tables.specs.Sizes.{word32}
 use Rattle.program_graph.proofs.RunLaws.{either_way}
-use Rattle.system_state.specs.Fits.{StateSound}
 use Rattle.graph_tables.specs.Refusals.{refusal}
 use Rattle.channel_system.specs.Steps.{system_fits, moved_of, transition_of}
 use Rattle.channel_system.proofs.FittingLaws.{fits_state}
@@ -24,8 +21,7 @@ use Rattle.recordings.specs.Records.{Entry, recorded_in}
 use Rattle.recordings.specs.Layout.{record_room}
 use Rattle.recordings.specs.Blocks.{count_in, entry_at, entries_of, block_at, last_at, good_block, good_at}
 use Rattle.recordings.proofs.BlockLaws.{good_parts}
-use Rattle.replays.specs.declared.answers.Replayed.{Replayed}
-use Rattle.replays.specs.declared.answers.Replayed.TheVariants.{Finished, BadBlock, Differs, Refused}
+use Rattle.replays.specs.declared.answers.Replayed.TheVariants.{Finished, BadBlock, Refused}
 use Rattle.replays.specs.Facts.{Ready}
 use Rattle.replays.specs.Replay.{post_words, call_of, given_to, after_entry, Played, played, differs_at, records_played, block_played}
 use Rattle.replays.specs.Replay.{is_finished, stepped_by, go_on, blocks_played, all_played, or_undone, replay_of}

@@ -1,12 +1,11 @@
 -- What a replay answers is so, over the public calls alone; and what is demanded of a chain of calls holds where some of them are replays.
-use Prim.Native.Nat.{ℕ, suc, ◌+◌, ◌<◌, ◌≤◌}
+use Prim.Native.Nat.{ℕ, suc, ◌+◌, ◌<◌}
 use mathlib.Core.Path.{◌≡◌, refl, sym, ap, ◌∙◌, subst}
-use mathlib.Core.Bool.{Bool, true, false, cond}
+use mathlib.Core.Bool.{true, false, cond}
 use mathlib.Core.List.{List, [], ◌∷◌, ◌++◌}
 use native.Mathlib.Omega.{arith}
 use lib.ListN.{length}
 use Rattle.laws.proofs.Ladder.{stopped}
-use Rattle.laws.proofs.Tests.{never}
 use Rattle.graph_tables.specs.Refusals.{refusal}
 use Rattle.graph_tables.specs.declared.refusals.Refusal.{Refusal}
 use Rattle.program_graph.specs.Facts.{Ok}
@@ -16,13 +15,12 @@ use Rattle.channel_system.specs.Readers.{now_of}
 use Rattle.channel_system.specs.Chains.{Call, read, time, state_after, state_after_all, now_number}
 use Rattle.channel_system.specs.Demand.{Demanded}
 use Rattle.channel_system.specs.declared.answers.Now.{Now}
-use Rattle.channel_system.specs.declared.answers.Now.TheVariants as Now
 use Rattle.channel_system.proofs.Demand.{demand_from_new}
 use Rattle.recordings.specs.Blocks.{blocks_in, good_at, entries_from, entries_in}
 use Rattle.replays.specs.declared.answers.Replayed.{Replayed}
 use Rattle.replays.specs.declared.answers.Replayed.TheVariants.{Finished, BadBlock, Differs, Refused}
 use Rattle.replays.specs.Replay.{given_to, Played, played, is_finished, blocks_played, all_played, replay_of}
-use Rattle.replays.specs.Recorded.{calls_of, after_all, Agreed, FinishedAs, BadAt, DiffersFirst, Says}
+use Rattle.replays.specs.Recorded.{calls_of, after_all, Agreed, Says}
 use Rattle.replays.specs.Made.{Made, call, replay, state_after_made, calls_made, state_after_made_all, calls_made_all}
 use Rattle.replays.proofs.PlayLaws.{replay_known, replay_unknown}
 use Rattle.replays.proofs.Walks.{Goods, goods_at, BlocksSay, blocks_say, by_test}

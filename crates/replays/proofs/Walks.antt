@@ -1,7 +1,7 @@
 -- What a walk of records, and one of blocks, says when it ends.
-use Prim.Native.Nat.{ℕ, zero, suc, ◌+◌, ◌<◌, ◌≤◌}
+use Prim.Native.Nat.{ℕ, zero, suc, ◌+◌, ◌<◌}
 use mathlib.Core.Path.{◌≡◌, refl, sym, ap, ◌∙◌, subst}
-use mathlib.Core.Bool.{Bool, true, false, cond}
+use mathlib.Core.Bool.{Bool, true, false}
 use mathlib.Core.List.{List, [], ◌∷◌, ◌++◌, append_assoc}
 use native.Mathlib.Omega.{arith}
 use borrow.Author.Tests.{eqb-true, eqb-false}
@@ -14,7 +14,7 @@ use Rattle.recordings.specs.Blocks.{entries_of, block_at, good_at, entries_from}
 use Rattle.replays.specs.declared.answers.Difference.{Difference}
 use Rattle.replays.specs.declared.answers.Replayed.{Replayed}
 use Rattle.replays.specs.declared.answers.Replayed.TheVariants.{Finished, BadBlock, Differs, Refused}
-use Rattle.replays.specs.Replay.{given_to, after_entry, Played, played, is_finished, stepped_by, records_played, block_played, go_on}
+use Rattle.replays.specs.Replay.{given_to, after_entry, Played, is_finished, stepped_by, records_played, block_played, go_on}
 use Rattle.replays.specs.Replay.{blocks_played}
 use Rattle.replays.specs.Recorded.{after_all, Agreed}
 use Rattle.replays.proofs.PlayLaws.{block_good, block_bad}

@@ -1,12 +1,11 @@
 use Prim.Native.Nat.{◌+◌, ◌-◌}
 use mathlib.Core.Path.{◌≡◌}
 use native.Mathlib.Omega.{arith}
-use borrow.Author.Rules.{rules}
 use borrow.Author.Tests.{eq-eqb, ne_eqb}
 use Rattle.explainer.proofs.why.part.Goals as goal
 
 pub overflow_add-end : goal.overflow_add-end
-overflow_add-end c = let s = c.before.before.before in omega (arith, s.requires.low)
+overflow_add-end c = omega (arith, c.requires.low)
 
 pub returns-then-cause-eq-GUARD : goal.returns-then-cause-eq-GUARD
 returns-then-cause-eq-GUARD c =

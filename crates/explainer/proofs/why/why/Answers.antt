@@ -1,5 +1,4 @@
 use mathlib.Core.Path.{ap, ◌∙◌}
-use borrow.Author.Rules.{rules}
 use Rattle.explainer.specs.Why.{told_of}
 use Rattle.explainer.proofs.WhyLaws.{why_within}
 use Rattle.explainer.proofs.why.why.Goals as goal

@@ -1,7 +1,4 @@
 use Prim.Native.Nat.{◌<◌}
-use mathlib.Core.Path.{◌≡◌, refl, sym, ◌∙◌}
-use native.Mathlib.Omega.{arith}
-use borrow.Author.Rules.{rules}
 use borrow.Author.Tests.{le-ltb, lt-ltb}
 use Rattle.laws.proofs.Ladder.{passed, stopped}
 use Rattle.graph_tables.specs.Words.{transition_count}
@@ -20,18 +17,13 @@ returns-then-transition_count-k c = stopped _ _ (le-ltb _ _ (rw c.transition_cou
 
 pub failing-failing-requires : goal.failing-failing-requires
 failing-failing-requires c =
-    let e = c.before.before in
-    let s = e.before.before.before.before.before in
-    (s.requires.0, known (goal.at.failing-failing-requires c).Else-transition_count-k, vars_length s.args.r.now s.requires.1, times_length s.args.r.now s.requires.1, s.requires.2)
+    (c.requires.0, known (goal.at.failing-failing-requires c).Else-transition_count-k, vars_length c.args.r.now c.requires.1, times_length c.args.r.now c.requires.1, c.requires.2)
 
 pub number-requires : goal.number-requires
 number-requires c =
-    let e = c.before.before.before in
-    let s = e.before.before.before.before.before in
-    (s.requires.0, known (goal.at.number-requires c).Else-transition_count-k, times_length s.args.r.now s.requires.1, s.requires.2)
+    (c.requires.0, known (goal.at.number-requires c).Else-transition_count-k, times_length c.args.r.now c.requires.1, c.requires.2)
 
 pub returns : goal.returns
 unfolding cause_from
 returns c =
-    let e = c.before.before.before.before in
     passed _ (lt-ltb _ _ (known (goal.at.returns c).Else-transition_count-k)) (rw (c.number.ensures, c.failing-failing.ensures))

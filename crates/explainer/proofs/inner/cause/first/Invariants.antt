@@ -1,14 +1,9 @@
 use Prim.Native.Nat.{◌-◌, ◌≤◌}
-use mathlib.Core.Path.{◌≡◌, sym, ◌∙◌}
+use mathlib.Core.Path.{◌≡◌}
 use mathlib.Core.Bool.{true}
-use native.Mathlib.Omega.{arith}
-use borrow.Author.Rules.{rules}
 use Rattle.laws.specs.Below.{all_below}
-use Rattle.laws.proofs.BelowLaws.{all_none, all_more, all_done}
 use Rattle.graph_tables.specs.Words.{pre_of, action_of, post_of}
-use Rattle.run_steps.proofs.LowestLaws.{lowest_none, lowest_at}
 use Rattle.explainer.specs.Cause.{other_than}
-use Rattle.explainer.proofs.CandidateLaws.{other_yes, other_no}
 use Rattle.explainer.proofs.inner.cause.first.Given as goal
 
 abbrev pub invariant-loop-k : goal.invariant-loop-k

@@ -1,7 +1,7 @@
-use Prim.Native.Nat.{ℕ, ◌+◌, ◌-◌, ◌*◌, ◌≤◌, ◌<◌}
-use mathlib.Core.Path.{◌≡◌, refl, sym, ap, ◌∙◌}
+use Prim.Native.Nat.{◌+◌, ◌-◌, ◌<◌}
+use mathlib.Core.Path.{◌≡◌, ap, ◌∙◌}
 use native.Mathlib.Omega.{arith}
-use lib.ListN.{length, take, drop, length-drop}
+use lib.ListN.{length, drop, length-drop}
 use lib.Seq.{length-take-le}
 use borrow.Author.Rules.{rules}
 use Rattle.graph_tables.specs.RunWords.{run_places_start, run_processes, clocks_in}
@@ -17,33 +17,35 @@ inside s = omega (arith, s.requires.3, s.requires.4)
 
 pub offset_bounds-r-place : goal.offset_bounds-r-place
 offset_bounds-r-place c =
-    let s = c.before.before.before.before.before.before in
-    let small = process_small s.args.t.now s.args.r.now s.requires.0 s.requires.1 s.args.p (inside (goal.at.offset_bounds-r-place c).Start) in
+    let small = process_small c.args.t.now c.args.r.now c.requires.0 c.requires.1 c.args.p (inside (goal.at.offset_bounds-r-place c).Start) in
+    search rules
+
+pub slice_bounds-ready-end-3 : goal.slice_bounds-ready-end-3
+slice_bounds-ready-end-3 c =
+    let small = process_small c.args.t.now c.args.r.now c.requires.0 c.requires.1 c.args.p (inside (goal.at.slice_bounds-ready-end-3 c).Start) in
     search rules
 
 pub ready-requires : goal.ready-requires
 ready-requires c =
-    let s = c.before.before.before.before.before.before.before.before in
-    let p = s.args.p in
+    let p = c.args.p in
     let e : run_places_start + p + 1 - (run_places_start + p) ≡ 1 = omega arith in
     let f : p + 1 - p ≡ 1 = omega arith in
-    let one = one_length s.args.t.now s.args.r.now s.requires.0 s.requires.1 p (inside (goal.at.ready-requires c).Start) in
-    let ps = s.args.posts.now in
-    let post = length-take-le 1 (drop p ps) (rw (length-drop p ps) (omega (arith, s.requires.4))) in (
-      s.requires.0,
-      vars_length s.args.r.now s.requires.1.words,
-      times_length s.args.r.now s.requires.1.words,
-      ap length s.requires.2 ∙ clocks_by_length s.args.t.now (clocks_in s.args.r.now) s.args.a
-          ∙ times_length s.args.r.now s.requires.1.words,
-      rw e (one_known s.args.t.now s.args.r.now s.requires.0 s.requires.1 p (inside (goal.at.ready-requires c).Start)),
+    let one = one_length c.args.t.now c.args.r.now c.requires.0 c.requires.1 p (inside (goal.at.ready-requires c).Start) in
+    let ps = c.args.posts.now in
+    let post = length-take-le 1 (drop p ps) (rw (length-drop p ps) (omega (arith, c.requires.4))) in (
+      c.requires.0,
+      vars_length c.args.r.now c.requires.1.words,
+      times_length c.args.r.now c.requires.1.words,
+      ap length c.requires.2 ∙ clocks_by_length c.args.t.now (clocks_in c.args.r.now) c.args.a
+          ∙ times_length c.args.r.now c.requires.1.words,
+      rw e (one_known c.args.t.now c.args.r.now c.requires.0 c.requires.1 p (inside (goal.at.ready-requires c).Start)),
       rw (e, f) (omega (arith, one, post)),
     )
 
 pub returns : goal.returns
 returns c =
-    let s = c.before.before.before.before.before.before.before.before.before in
-    let p = s.args.p in
+    let p = c.args.p in
     let e : run_places_start + p + 1 - (run_places_start + p) ≡ 1 = omega arith in
     let f : p + 1 - p ≡ 1 = omega arith in
-    let given = rw (e, f, s.requires.2) at c.ready.ensures in
-    given ∙ one_ready s.args.t.now s.args.r.now s.requires.0 s.requires.1 p (inside (goal.at.returns c).Start) _ _ _ _ _
+    let given = rw (e, f, c.requires.2) at c.ready.ensures in
+    given ∙ one_ready c.args.t.now c.args.r.now c.requires.0 c.requires.1 p (inside (goal.at.returns c).Start) _ _ _ _ _

@@ -1,5 +1,4 @@
-use Prim.Native.Nat.{◌-◌, ◌≤◌}
-use mathlib.Core.Path.{◌≡◌, sym, ap, subst, ◌∙◌}
+use mathlib.Core.Path.{◌≡◌, sym, subst, ◌∙◌}
 use mathlib.Core.Bool.{true}
 use native.Mathlib.Omega.{arith}
 use lib.ListN.{length}
@@ -17,22 +16,17 @@ loop-p-init c = (search rules, all_none _)
 
 pub is_ready-requires : goal.is_ready-requires
 is_ready-requires c =
-    let s = c.before.before.before.before.before.before in
-    (s.requires.0, s.requires.1, s.requires.2, s.requires.3, omega arith)
+    (c.requires.0, c.requires.1, c.requires.2, c.requires.3, omega arith)
 
 pub returns-then-not-is_ready : goal.returns-then-not-is_ready
 returns-then-not-is_ready c =
-    let l = c.before.before.before in
-    let s = l.before.before.before.before.before in
-    sym (lowest_at _ _ l.loop-p.p (omega (arith, s.requires.3)) l.loop-p.invariant.1 (failed c.is_ready.ensures c.if-not-is_ready.true-raw))
+    sym (lowest_at _ _ c.loop-p.p (omega (arith, c.requires.3)) c.loop-p.invariant.1 (failed c.is_ready.ensures c.if-not-is_ready.true-raw))
 
 pub loop-p-preserved : goal.loop-p-preserved
 loop-p-preserved c = (omega arith, all_more _ _ c.loop-p.invariant.1 (held c.is_ready.ensures c.if-not-is_ready.false-raw))
 
 pub returns : goal.returns
 returns c =
-    let l = c.before in
-    let s = l.before.before.before.before.before in
-    let e : l.loop-p.p ≡ length s.args.posts.now = omega arith in
-    s.requires.3 ∙ sym (lowest_none _ _ (subst (λ n. all_below n (ready_in s.args.t.now (run_at s.args.r.now) s.args.a s.args.posts.now) ≡ true)
-    (e ∙ s.requires.3) l.loop-p.invariant.1))
+    let e : c.loop-p.p ≡ length c.args.posts.now = omega arith in
+    c.requires.3 ∙ sym (lowest_none _ _ (subst (λ n. all_below n (ready_in c.args.t.now (run_at c.args.r.now) c.args.a c.args.posts.now) ≡ true)
+    (e ∙ c.requires.3) c.loop-p.invariant.1))

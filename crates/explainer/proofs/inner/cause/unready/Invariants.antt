@@ -1,13 +1,8 @@
 use Prim.Native.Nat.{◌-◌, ◌≤◌}
-use mathlib.Core.Path.{◌≡◌, sym, ap, subst, ◌∙◌}
+use mathlib.Core.Path.{◌≡◌}
 use mathlib.Core.Bool.{true}
-use native.Mathlib.Omega.{arith}
 use lib.ListN.{length}
-use borrow.Author.Rules.{rules}
 use Rattle.laws.specs.Below.{all_below}
-use Rattle.laws.proofs.BelowLaws.{all_none, all_more}
-use Rattle.laws.proofs.Tests.{held, failed}
-use Rattle.run_steps.proofs.LowestLaws.{lowest_none, lowest_at}
 use Rattle.program_graph.specs.Inner.{run_at}
 use Rattle.explainer.specs.Cause.{ready_in}
 use Rattle.explainer.proofs.inner.cause.unready.Given as goal

@@ -1,5 +1,5 @@
 use Prim.Native.Nat.{ℕ, ◌-◌, ◌≤◌}
-use mathlib.Core.Path.{◌≡◌, refl, sym, ap, ◌∙◌}
+use mathlib.Core.Path.{◌≡◌, sym, ap, ◌∙◌}
 use mathlib.Core.Bool.{true}
 use mathlib.Core.List.{List}
 use native.Mathlib.Omega.{arith}
@@ -40,14 +40,20 @@ returns-then-not-own c =
 
 pub locations-requires : goal.locations-requires
 locations-requires c =
-    let n = c.before in
     let ps = c.args.posts.now in
-    let h : n.few-n.result ≡ few_of (length ps) = n.few-n.ensures in
+    let h : c.few-n.result ≡ few_of (length ps) = c.few-n.ensures in
     let few = few_bounds (length ps) in
     (omega (arith, h, few.0), omega (arith, h, few.1))
 
+pub slice_bounds-on_graph-end : goal.slice_bounds-on_graph-end
+slice_bounds-on_graph-end c =
+    let ps = c.args.posts.now in
+    let h : c.few-n.result ≡ few_of (length ps) = c.few-n.ensures in
+    let l : c.few-n.result ≤ length c.locations.new.to = omega (arith, h, (few_bounds (length ps)).1, c.locations.ensures.1) in
+    search (rules, l)
+
 fitting : (e : Else-graph_count-g) → Fitting e.args.t.now e.args.s.now e.args.pg.0
-fitting e = let z = e.before.before.before.before.before in record { table = z.requires.0; state = z.requires.1; known = ltb-true _ _ (known e) }
+fitting e = record { table = e.requires.0; state = e.requires.1; known = ltb-true _ _ (known e) }
 
 pub on_graph-requires : goal.on_graph-requires
 on_graph-requires c = fitting (goal.at.on_graph-requires c).Else-graph_count-g
@@ -55,18 +61,14 @@ on_graph-requires c = fitting (goal.at.on_graph-requires c).Else-graph_count-g
 pub returns : goal.returns
 unfolding plain_why unless
 returns c =
-    let o = c.before.before.before.before.before in
-    let n = c.before.before.before.before.before.before.before in
-    let e = c.before.before.before.before.before.before.before.before.before.before.before.before.before in
-    let z = e.before.before.before.before in
-    let t = z.args.t.now in
-    let s = z.args.s.now in
-    let g = z.args.pg.0 in
-    let a = z.args.action.1.0 in
-    let ps = z.args.posts.now in
+    let t = c.args.t.now in
+    let s = c.args.s.now in
+    let g = c.args.pg.0 in
+    let a = c.args.action.1.0 in
+    let ps = c.args.posts.now in
     let minus : c.few-n.result - 0 ≡ c.few-n.result = omega arith in
-    let same = ap (λ (k : ℕ). take k c.locations.new.1.1.0) minus ∙ c.locations.ensures.0
+    let same = ap (λ (k : ℕ). take k c.locations.new.to) minus ∙ c.locations.ensures.0
     ∙ ap (λ (k : ℕ). take k (locations_of ps)) (c.few-n.ensures ∙ ap few_of (sym (locations_length ps))) in
     rw (known (goal.at.returns c).Else-graph_count-g, eq-eqb _ _ c.if-owner-g.false, held c.own.ensures c.if-not-own.false-raw)
-    (c.on_graph.ensures ∙ ap (λ (qs : List ℕ). graph_why t s g a qs z.args.word) same
-    ∙ why_few t s g a (locations_of ps) z.args.word (few_processes (fitting (goal.at.returns c).Else-graph_count-g)))
+    (c.on_graph.ensures ∙ ap (λ (qs : List ℕ). graph_why t s g a qs c.args.word) same
+    ∙ why_few t s g a (locations_of ps) c.args.word (few_processes (fitting (goal.at.returns c).Else-graph_count-g)))

@@ -1,11 +1,8 @@
-use Prim.Native.Nat.{◌-◌, ◌≤◌}
-use mathlib.Core.Path.{◌≡◌, refl, ap}
-use mathlib.Core.Bool.{true, not}
+use mathlib.Core.Path.{refl, ap}
+use mathlib.Core.Bool.{not}
 use native.Mathlib.Omega.{arith}
-use lib.ListN.{length}
 use borrow.Author.Rules.{rules}
 use borrow.Author.Tests.{eq-eqb, ne_eqb}
-use Rattle.laws.specs.Below.{all_below}
 use Rattle.laws.proofs.BelowLaws.{all_none}
 use Rattle.graph_tables.proofs.FormedLaws.{turn_fails, turn_holds, turns_end}
 use Rattle.explainer.specs.Same.{word_same, all_same}
@@ -17,15 +14,13 @@ loop-i-init c = (search rules, all_none _)
 pub returns-then-xs-i : goal.returns-then-xs-i
 unfolding all_same word_same
 returns-then-xs-i c =
-    let l = c.before.before.before.before in
-    turn_fails _ _ l.loop-i.i (omega arith) refl (ap not (ne_eqb _ _ c.if-xs-i.true))
+    turn_fails _ _ c.loop-i.i (omega arith) refl (ap not (ne_eqb _ _ c.if-xs-i.true))
 
 pub loop-i-preserved : goal.loop-i-preserved
 unfolding word_same
 loop-i-preserved c =
-    let l = c.before.before.before.before in
-    turn_holds _ _ l.loop-i.i (omega arith) l.loop-i.invariant.1 refl (ap not (eq-eqb _ _ c.if-xs-i.false))
+    turn_holds _ _ c.loop-i.i (omega arith) c.loop-i.invariant.1 refl (ap not (eq-eqb _ _ c.if-xs-i.false))
 
 pub returns : goal.returns
 unfolding all_same
-returns c = let l = c.before in turns_end _ _ l.loop-i.i (omega arith) (omega arith) l.loop-i.invariant.1
+returns c = turns_end _ _ c.loop-i.i (omega arith) (omega arith) c.loop-i.invariant.1

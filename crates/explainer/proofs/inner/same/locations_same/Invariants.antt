@@ -1,11 +1,7 @@
 use Prim.Native.Nat.{◌-◌, ◌≤◌}
 use mathlib.Core.Path.{◌≡◌}
 use mathlib.Core.Bool.{true}
-use native.Mathlib.Omega.{arith}
-use borrow.Author.Rules.{rules}
 use Rattle.laws.specs.Below.{all_below}
-use Rattle.laws.proofs.BelowLaws.{all_none}
-use Rattle.graph_tables.proofs.FormedLaws.{turn_fails, turn_holds, turns_end}
 use Rattle.explainer.specs.Same.{location_same}
 use Rattle.explainer.proofs.inner.same.locations_same.Given as goal
 

@@ -1,5 +1,3 @@
-use mathlib.Core.Path.{◌∙◌}
-use borrow.Author.Rules.{rules}
 use borrow.Author.Tests.{eq-eqb, ne_eqb}
 use Rattle.laws.proofs.BelowLaws.{and_yes, and_no}
 use Rattle.explainer.specs.Same.{tables_same}
@@ -15,13 +13,9 @@ returns-then-limits-ne-ALL_LIMITS c = and_yes (eq-eqb _ _ c.if-guards-ne-ALL_GUA
 
 pub graphs_same-requires : goal.graphs_same-requires
 graphs_same-requires c =
-    let e = c.before in
-    let s = e.before.before.before.before in
-    (s.requires, e.if-guards-ne-ALL_GUARDS.false, c.if-limits-ne-ALL_LIMITS.false)
+    (c.requires, c.if-guards-ne-ALL_GUARDS.false, c.if-limits-ne-ALL_LIMITS.false)
 
 pub returns : goal.returns
 unfolding tables_same
 returns c =
-    let f = c.before in
-    let e = f.before in
-    and_yes (eq-eqb _ _ e.if-guards-ne-ALL_GUARDS.false) (and_yes (eq-eqb _ _ f.if-limits-ne-ALL_LIMITS.false) c.graphs_same.ensures)
+    and_yes (eq-eqb _ _ c.if-guards-ne-ALL_GUARDS.false) (and_yes (eq-eqb _ _ c.if-limits-ne-ALL_LIMITS.false) c.graphs_same.ensures)

@@ -1,79 +1,65 @@
-use Prim.Native.Nat.{ℕ, ◌+◌, ◌-◌, ◌*◌, ◌≤◌, ◌<◌}
-use mathlib.Core.Path.{◌≡◌, refl, sym, ap, ◌∙◌, subst}
-use mathlib.Core.Bool.{true}
+use Prim.Native.Nat.{ℕ, ◌+◌, ◌-◌}
+use mathlib.Core.Path.{sym, ap, ◌∙◌, subst}
 use mathlib.Core.List.{List}
 use native.Mathlib.Omega.{arith}
-use lib.ListN.{length, take, drop}
+use lib.ListN.{length}
 use borrow.Author.Rules.{rules}
 use Rattle.laws.proofs.Tests.{held, failed}
 use Rattle.recordings.specs.Blocks.{blocks_in}
 use Rattle.replays.specs.Facts.{Ready}
-use Rattle.replays.specs.Replay.{Played, is_finished, stepped_by, block_played, blocks_played, all_played}
+use Rattle.replays.specs.Replay.{Played, is_finished, stepped_by, block_played, blocks_played}
 use Rattle.replays.proofs.PlayLaws.{block_few, block_ready, blocks_start, blocks_turn, blocks_found, blocks_over}
 use Rattle.replays.proofs.inner.blocks.play.Goals as goal
 
 pub loop-b-init : goal.loop-b-init
 loop-b-init c =
-    let z = c.before.before.before.before in
-    let x = z.args in (
+    let x = c.args in (
       search rules,
       c.blocks_in-b-end.ensures,
-      z.requires,
+      c.requires,
       search rules,
       blocks_start x.t.now x.bytes.now (blocks_in (length x.bytes.now)) x.s.now,
     )
 
 pub play_block-r-requires : goal.play_block-r-requires
 play_block-r-requires c =
-    let i = c.before in
-    let l = i.before in
-    (l.loop-b.invariant.2, omega (arith, i.loop-b-test.true, l.loop-b.invariant.1), l.loop-b.invariant.3)
+    (c.loop-b.invariant.2, omega (arith, c.loop-b-test.true, c.loop-b.invariant.1), c.loop-b.invariant.3)
 
 pub returns-then-not-is_finished : goal.returns-then-not-is_finished
 returns-then-not-is_finished c =
-    let f = c.before in
-    let w = f.before.before.before in
-    let i = w.before.before in
-    let l = i.before in
-    let x = l.args in
+    let x = c.args in
     let bytes = x.bytes.now in
-    let not_yet = failed (f.is_finished.ensures ∙ ap is_finished w.play_block-r.ensures.0) c.if-not-is_finished.true-raw in
-    let e = sym l.loop-b.invariant.4 ∙ blocks_found x.t.now bytes (blocks_in (length bytes)) l.loop-b.s l.loop-b.b l.loop-b.done
-    (omega (arith, i.loop-b-test.true, l.loop-b.invariant.1)) not_yet in
-    (w.play_block-r.ensures.0 ∙ sym (ap (λ (p : Played). p.answer) e), w.play_block-r.ensures.1 ∙ sym (ap (λ (p : Played). p.state) e))
+    let not_yet = failed (c.is_finished.ensures ∙ ap is_finished c.play_block-r.ensures.0) c.if-not-is_finished.true-raw in
+    let e = sym c.loop-b.invariant.4 ∙ blocks_found x.t.now bytes (blocks_in (length bytes)) c.loop-b.s c.loop-b.b c.loop-b.done
+    (omega (arith, c.loop-b-test.true, c.loop-b.invariant.1)) not_yet in
+    (c.play_block-r.ensures.0 ∙ sym (ap (λ (p : Played). p.answer) e), c.play_block-r.ensures.1 ∙ sym (ap (λ (p : Played). p.state) e))
 
 pub loop-b-preserved : goal.loop-b-preserved
 loop-b-preserved c =
-    let h = c.before in
-    let f = h.before in
-    let w = f.before.before.before in
-    let i = w.before.before in
-    let l = i.before in
-    let x = l.args in
+    let x = c.args in
     let t = x.t.now in
     let bytes = x.bytes.now in
     let n = blocks_in (length bytes) in
-    let s = l.loop-b.s in
-    let b = l.loop-b.b in
-    let done = l.loop-b.done in
-    let yes = held (f.is_finished.ensures ∙ ap is_finished w.play_block-r.ensures.0) h.if-not-is_finished.false-raw in
-    let left = w.play_block-r.ensures.1 in
-    let many = c.stepped_by-done.ensures ∙ ap stepped_by w.play_block-r.ensures.0 in
-    let turn = blocks_turn t bytes n s b done (omega (arith, i.loop-b-test.true, l.loop-b.invariant.1)) yes in (
-      omega (arith, i.loop-b-test.true),
-      l.loop-b.invariant.1,
-      subst (Ready t) (sym left) (block_ready t s bytes b done l.loop-b.invariant.2),
-      omega (arith, many, block_few t s bytes b done yes, l.loop-b.invariant.3),
+    let s = c.loop-b.s in
+    let b = c.loop-b.b in
+    let done = c.loop-b.done in
+    let yes = held (c.is_finished.ensures ∙ ap is_finished c.play_block-r.ensures.0) c.if-not-is_finished.false-raw in
+    let left = c.play_block-r.ensures.1 in
+    let many = c.stepped_by-done.ensures ∙ ap stepped_by c.play_block-r.ensures.0 in
+    let turn = blocks_turn t bytes n s b done (omega (arith, c.loop-b-test.true, c.loop-b.invariant.1)) yes in (
+      omega (arith, c.loop-b-test.true),
+      c.loop-b.invariant.1,
+      subst (Ready t) (sym left) (block_ready t s bytes b done c.loop-b.invariant.2),
+      omega (arith, many, block_few t s bytes b done yes, c.loop-b.invariant.3),
       ap (λ (u : List ℕ). blocks_played t u bytes (b + 1) c.stepped_by-done.result (n - (b + 1))) left
           ∙ (ap (λ (k : ℕ). blocks_played t (block_played t s bytes b done).state bytes (b + 1) k (n - (b + 1))) many
-          ∙ (sym turn ∙ l.loop-b.invariant.4)),
+          ∙ (sym turn ∙ c.loop-b.invariant.4)),
     )
 
 pub returns : goal.returns
 returns c =
-    let l = c.before in
-    let x = l.args in
+    let x = c.args in
     let bytes = x.bytes.now in
-    let e = sym l.loop-b.invariant.4 ∙ blocks_over x.t.now bytes (blocks_in (length bytes)) l.loop-b.s l.loop-b.b l.loop-b.done
-    (omega (arith, c.loop-b-test.false, l.loop-b.invariant.1)) in
+    let e = sym c.loop-b.invariant.4 ∙ blocks_over x.t.now bytes (blocks_in (length bytes)) c.loop-b.s c.loop-b.b c.loop-b.done
+    (omega (arith, c.loop-b-test.false, c.loop-b.invariant.1)) in
     (sym (ap (λ (p : Played). p.answer) e), sym (ap (λ (p : Played). p.state) e))

@@ -1,19 +1,9 @@
-use Prim.Native.Nat.{ℕ, zero, suc, ◌+◌, ◌-◌, ◌*◌, ◌/◌, ◌%◌, ◌≤◌, ◌<◌}
-use mathlib.Core.Path.{◌≡◌, refl, sym, ap, ◌∙◌}
-use native.Mathlib.Omega.{arith}
-use lib.ListN.{length, get_or, set, length-set}
-use borrow.Author.Rules.{rules}
-use mathlib.Core.Path.{subst}
-use mathlib.Core.List.{List}
+use Prim.Native.Nat.{◌+◌, ◌-◌, ◌≤◌}
+use mathlib.Core.Path.{◌≡◌}
 use Rattle.recordings.specs.Numbers.{row}
-use Rattle.recordings.specs.Records.{entry_of, recorded_in, good_record}
-use Rattle.recordings.specs.Blocks.{record_part, entry_at, entries_of}
-use Rattle.recordings.proofs.RecordLaws.{recorded_in_lem}
-use Rattle.recordings.proofs.BlockLaws.{slot_good}
-use Rattle.replays.specs.declared.answers.Replayed.TheVariants.{Finished}
+use Rattle.recordings.specs.Blocks.{entry_at, entries_of}
 use Rattle.replays.specs.Facts.{Ready}
-use Rattle.replays.specs.Replay.{given_to, after_entry, Played, records_played}
-use Rattle.replays.proofs.PlayLaws.{after_ready, records_start, records_turn, records_found, records_over, as_found}
+use Rattle.replays.specs.Replay.{records_played}
 use Rattle.replays.proofs.inner.blocks.play_records.Given as goal
 
 abbrev pub invariant-loop-i : goal.invariant-loop-i

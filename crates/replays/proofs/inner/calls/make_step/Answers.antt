@@ -1,9 +1,7 @@
-use Prim.Native.Nat.{ℕ, zero, suc, ◌+◌, ◌-◌, ◌*◌, ◌/◌, ◌%◌, ◌≤◌, ◌<◌}
-use mathlib.Core.Path.{◌≡◌, refl, sym, ap, ◌∙◌}
+use Prim.Native.Nat.{ℕ, ◌-◌}
+use mathlib.Core.Path.{◌≡◌, ap, ◌∙◌}
 use native.Mathlib.Omega.{arith}
-use lib.ListN.{length, get_or, set, length-set}
-use borrow.Author.Rules.{rules}
-use mathlib.Core.List.{List}
+use lib.ListN.{get_or}
 use lib.ListN.{take}
 use Rattle.graph_tables.specs.Answers.{done_number}
 use Rattle.channel_system.specs.Steps.{Moved}
@@ -20,26 +18,19 @@ overflow_cast-pg c = omega (arith, c.shared_slice_known-4-1.given 1)
 
 pub step-told-requires : goal.step-told-requires
 step-told-requires c =
-    let k = c.before.before.before.before.before.before.before.before in
-    let z = k.before.before.before.before in
-    (formed_sound _ z.requires.0.table, z.requires.0.state)
+    (formed_sound _ c.requires.0.table, c.requires.0.state)
 
 pub returns : goal.returns
 returns c =
-    let m = c.before.before.before in
-    let w = m.before.before.before.before in
-    let a = w.before in
-    let p = a.before.before in
-    let z = p.before.before.before.before.before.before in
-    let t = z.args.t.now in
-    let s = z.args.s.now in
-    let r = z.args.r.now in
+    let t = c.args.t.now in
+    let s = c.args.s.now in
+    let r = c.args.r.now in
     let g = get_or r 1 0 in
     let n = get_or r 2 0 in
     let minus : n - 0 ≡ n = omega arith in
-    let posts = ap (λ (k : ℕ). take k c.post_words.new.1.1.1.0) minus ∙ c.post_words.ensures.0 in
-    let same = step_made t s z.requires.0 g (amount_in r) (post_words g (row (post_in r) 0 n)) (word_in r)
+    let posts = ap (λ (k : ℕ). take k c.post_words.new.to) minus ∙ c.post_words.ensures.0 in
+    let same = step_made t s c.requires.0 g (amount_in r) (post_words g (row (post_in r) 0 n)) (word_in r)
     c.amount-a.ensures posts c.word-word.ensures in (
-      c.done_number.ensures ∙ ap (λ (x : Stepped). done_number x.answer) (m.step-told.ensures.0 ∙ ap (λ (x : Moved). x.told) same),
-      m.step-told.ensures.1 ∙ ap (λ (x : Moved). x.state) same,
+      c.done_number.ensures ∙ ap (λ (x : Stepped). done_number x.answer) (c.step-told.ensures.0 ∙ ap (λ (x : Moved). x.told) same),
+      c.step-told.ensures.1 ∙ ap (λ (x : Moved). x.state) same,
     )

@@ -1,10 +1,9 @@
-use Prim.Native.Nat.{ℕ, zero, suc, ◌+◌, ◌-◌, ◌*◌, ◌/◌, ◌%◌, ◌≤◌, ◌<◌}
-use mathlib.Core.Path.{◌≡◌, refl, sym, ap, ◌∙◌}
+use Prim.Native.Nat.{suc, ◌+◌, ◌*◌}
+use mathlib.Core.Path.{◌≡◌, refl, sym, ◌∙◌}
 use native.Mathlib.Omega.{arith}
-use lib.ListN.{length, get_or, set, length-set}
+use lib.ListN.{set, length-set}
 use borrow.Author.Rules.{rules}
-use mathlib.Core.Path.{subst}
-use mathlib.Core.List.{List, [], ◌∷◌, ◌++◌}
+use mathlib.Core.List.{[], ◌∷◌, ◌++◌}
 use native.Mathlib.Numerals.{add-one}
 use native.Mathlib.Nat.{zero-add}
 use lib.ListN.{take}
@@ -22,20 +21,16 @@ loop-j-init c = (search rules, search rules, refl)
 
 pub loop-j-preserved : goal.loop-j-preserved
 loop-j-preserved c =
-    let l = c.before.before in
-    let z = l.before.before.before in
-    let to = l.loop-j.to in
-    let j = l.loop-j.j in
-    let f = post_in z.args.r.now in
-    let v = z.args.g * 4294967296 + c.post.result in
+    let to = c.loop-j.to in
+    let j = c.loop-j.j in
+    let f = post_in c.args.r.now in
+    let v = c.args.g * 4294967296 + c.post.result in
     let one : take (suc j) (set to j v) ≡ take j to ++ (v ∷ []) = take-suc-set to j v (omega arith) in
-    let last : take j to ++ (v ∷ []) ≡ post_words z.args.g (row f 0 (j + 1)) =
-    rw (l.loop-j.invariant.2, c.post.ensures.0, row_more f 0 j, zero-add j) (sym (words_more z.args.g (row f 0 j) (f j))) in
-    (omega arith, simp length-set l.loop-j.invariant.1, rw (← add-one j) at one ∙ last)
+    let last : take j to ++ (v ∷ []) ≡ post_words c.args.g (row f 0 (j + 1)) =
+    rw (c.loop-j.invariant.2, c.post.ensures.0, row_more f 0 j, zero-add j) (sym (words_more c.args.g (row f 0 j) (f j))) in
+    (omega arith, simp length-set c.loop-j.invariant.1, rw (← add-one j) at one ∙ last)
 
 pub returns : goal.returns
 returns c =
-    let l = c.before in
-    let z = l.before.before.before in
-    let e : l.loop-j.j ≡ z.args.n = omega arith in
-    (rw e at l.loop-j.invariant.2, l.loop-j.invariant.1)
+    let e : c.loop-j.j ≡ c.args.n = omega arith in
+    (rw e at c.loop-j.invariant.2, c.loop-j.invariant.1)
