@@ -70,19 +70,19 @@ tables_exactly t guards limits sound = (
       let eg : length guards ≡ all_guards = eqb-true _ _ (and_first _ _ h) in
       let el : length limits ≡ all_limits = eqb-true _ _ (and_first _ _ (and_rest _ _ h)) in
       record {
-        all_guards_lem = eg;
-        all_limits_lem = el;
+        guards_whole = eg;
+        limits_whole = el;
         graph = λ g m.
             let same = all_at (graph_same t guards limits) _ g (and_rest _ _ (and_rest _ _ h)) m in
             graph_equal (graph_part t g) guards limits (sound.graph g m) eg el g (omega (arith, sound.graphs))
             (and_first _ _ same) (and_rest _ _ same);
       },
   λ e.
-      and_both (eq-eqb _ _ e.all_guards_lem)
-      (and_both (eq-eqb _ _ e.all_limits_lem)
+      and_both (eq-eqb _ _ e.guards_whole)
+      (and_both (eq-eqb _ _ e.limits_whole)
       (all_from (graph_same t guards limits) _
       (λ g m.
-      equal_graph (graph_part t g) guards limits (sound.graph g m) e.all_guards_lem e.all_limits_lem g (omega (arith, sound.graphs)) (e.graph g m)))),
+      equal_graph (graph_part t g) guards limits (sound.graph g m) e.guards_whole e.limits_whole g (omega (arith, sound.graphs)) (e.graph g m)))),
 )
 
 -- ---- a limit of a group that is the built one

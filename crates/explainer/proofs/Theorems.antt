@@ -191,7 +191,7 @@ module _ (t s guards limits : List ℕ) (g o a : ℕ) (posts : List ℕ) (word :
       let f = fitting h in
       let equal = (tables_exactly t guards limits f.table).0 h.same in
       subst (λ (x : Found). part_of guards limits x ≡ built_of G x.cause) (sym (is_caused h))
-      (part_built G (part_sound f) g (small f) guards limits equal.all_limits_lem (equal.graph g f.known) (run_of s g) a (locations_of posts) _
+      (part_built G (part_sound f) g (small f) guards limits equal.limits_whole (equal.graph g f.known) (run_of s g) a (locations_of posts) _
       (named h))
 
   -- ---- There is a cause exactly where the answer is 8.

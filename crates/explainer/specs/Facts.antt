@@ -105,6 +105,6 @@ pub record GraphEqual (t guards limits : List ℕ) (g : ℕ) : Type 0 where
       ≡ part t (group_start (invariant_group l)) (limit_width * invariant_count t l)
 
 pub record Equal (t guards limits : List ℕ) : Type 0 where
-  pub all_guards_lem : length guards ≡ all_guards
-  pub all_limits_lem : length limits ≡ all_limits
+  pub guards_whole : length guards ≡ all_guards
+  pub limits_whole : length limits ≡ all_limits
   pub graph : (g : ℕ) → g < graph_count t → GraphEqual (graph_part t g) guards limits g
