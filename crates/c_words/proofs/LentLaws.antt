@@ -18,7 +18,6 @@ use Rattle.program_graph.proofs.WordLaws.{vars_length}
 use Rattle.graph_tables.specs.Sound.{Sound}
 use Rattle.graph_tables.specs.Formed.{well_formed}
 use Rattle.graph_tables.specs.declared.answers.Done.{Done}
-use Rattle.graph_tables.specs.declared.answers.Done.TheVariants as Done
 use Rattle.graph_tables.specs.declared.handed.Message.{Message}
 use Rattle.graph_tables.proofs.SoundLaws.{sound}
 use Rattle.program_graph.specs.declared.record.ProgramGraphRun.{ProgramGraphRun}

@@ -7,17 +7,12 @@ use Rattle.graph_tables.specs.Formed.{well_formed}
 use Rattle.graph_tables.specs.Refusals.{refusal}
 use Rattle.graph_tables.specs.declared.handed.Message.{Message}
 use Rattle.graph_tables.specs.declared.answers.Done.{Done}
-use Rattle.graph_tables.specs.declared.answers.Done.TheVariants as Done
 use Rattle.run_steps.specs.Messages.{no_message}
 use Rattle.program_graph.specs.declared.record.ProgramGraphRun.{ProgramGraphRun}
 use Rattle.program_graph.specs.declared.answers.Held.{Held}
-use Rattle.program_graph.specs.declared.answers.Held.TheVariants as Held
 use Rattle.program_graph.specs.declared.answers.Listed.{Listed}
-use Rattle.program_graph.specs.declared.answers.Listed.TheVariants as Listed
 use Rattle.program_graph.specs.declared.answers.Value.{Value}
-use Rattle.program_graph.specs.declared.answers.Value.TheVariants as Value
 use Rattle.program_graph.specs.declared.answers.Time.{Time}
-use Rattle.program_graph.specs.declared.answers.Time.TheVariants as Time
 use Rattle.program_graph.specs.Fits.{run_words_fit}
 use Rattle.program_graph.specs.Inner.{run_at}
 use Rattle.program_graph.specs.FreshWords.{fresh_words}

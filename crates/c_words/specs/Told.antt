@@ -1,24 +1,18 @@
 -- What each answer is in C: a number, 0 for ok, and the words that it tells. A refusal tells none, but for the graph of a wait's 9.
-use Rattle.std.specs.Prelude.{ℕ, zero, suc, ◌+◌, ◌≡◌, List, [], ◌∷◌, get_or, set}
+use Rattle.std.specs.Prelude.{ℕ, ◌+◌, ◌≡◌, List, [], ◌∷◌, get_or, set}
 use Rattle.grammar.specs.Values.{kind_word}
 use Rattle.grammar.specs.Slots.{kind_in, payload_in, truth_word}
 use Rattle.grammar.specs.Evaluation.{blank}
 use Rattle.grammar.specs.declared.values.Slot.{Slot}
 use Rattle.graph_tables.specs.Refusals.{number_of}
 use Rattle.graph_tables.specs.declared.refusals.Refusal.{Refusal}
-use Rattle.graph_tables.specs.declared.refusals.Refusal.TheVariants as Refusal
 use Rattle.graph_tables.specs.declared.handed.Message.{Message}
 use Rattle.graph_tables.specs.declared.answers.Done.{Done}
-use Rattle.graph_tables.specs.declared.answers.Done.TheVariants as Done
 use Rattle.graph_tables.specs.declared.answers.Placed.{Placed}
-use Rattle.graph_tables.specs.declared.answers.Placed.TheVariants as Placed
 use Rattle.graph_tables.specs.declared.answers.VarType.{VarType}
-use Rattle.graph_tables.specs.declared.answers.VarType.TheVariants as VarType
 use Rattle.graph_tables.specs.declared.answers.Entry.{Entry}
 use Rattle.program_graph.specs.declared.answers.Held.{Held}
-use Rattle.program_graph.specs.declared.answers.Held.TheVariants as Held
 use Rattle.program_graph.specs.declared.answers.Value.{Value}
-use Rattle.program_graph.specs.declared.answers.Value.TheVariants as Value
 use Rattle.program_graph.specs.declared.answers.Listed as Graph
 use Rattle.program_graph.specs.declared.answers.Listed.TheVariants as OnGraph
 use Rattle.system_tables.specs.Sizes.{bounded_sort, unbounded_sort, sink_sort}
@@ -33,15 +27,10 @@ use Rattle.system_builder.specs.declared.answers.ChannelRead.{ChannelRead}
 use Rattle.channel_system.specs.declared.answers.Event.{Event}
 use Rattle.channel_system.specs.declared.answers.Stepped.{Stepped}
 use Rattle.channel_system.specs.declared.answers.Waited.{Waited}
-use Rattle.channel_system.specs.declared.answers.Waited.TheVariants as Waited
 use Rattle.channel_system.specs.declared.answers.Listed.{Listed}
-use Rattle.channel_system.specs.declared.answers.Listed.TheVariants as Listed
 use Rattle.channel_system.specs.declared.answers.Now.{Now}
-use Rattle.channel_system.specs.declared.answers.Now.TheVariants as Now
 use Rattle.channel_system.specs.declared.answers.Length.{Length}
-use Rattle.channel_system.specs.declared.answers.Length.TheVariants as Length
 use Rattle.channel_system.specs.declared.answers.Queued.{Queued}
-use Rattle.channel_system.specs.declared.answers.Queued.TheVariants as Queued
 
 -- ---- sizes: how many words each result has
 abbrev pub number_words : ℕ

@@ -1,4 +1,3 @@
-use borrow.Author.Rules.{rules}
 use Rattle.c_words.proofs.inner.given.done.Goals as goal
 
 pub returns-in-Refused : goal.returns-in-Refused

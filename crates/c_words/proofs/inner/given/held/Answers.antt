@@ -1,5 +1,4 @@
 use mathlib.Core.Path.{refl}
-use borrow.Author.Rules.{rules}
 use Rattle.c_words.proofs.inner.given.held.Goals as goal
 
 pub returns-in-Is : goal.returns-in-Is

@@ -1,5 +1,4 @@
 use Rattle.c_words.specs.Handed.{bound_from}
-use borrow.Author.Rules.{rules}
 use Rattle.c_words.proofs.inner.handed.bound_from.Goals as goal
 
 pub returns : goal.returns

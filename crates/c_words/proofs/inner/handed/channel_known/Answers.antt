@@ -1,5 +1,4 @@
 use mathlib.Core.Path.{refl}
-use borrow.Author.Rules.{rules}
 use Rattle.laws.proofs.BelowLaws.{and_yes, and_no}
 use Rattle.laws.proofs.Tests.{held, failed}
 use Rattle.c_words.specs.Handed.{channel_known}

@@ -1,7 +1,6 @@
 use mathlib.Core.Path.{sym, ◌∙◌}
 use borrow.Author.Tests.{eq-eqb, ne_eqb}
 use Rattle.c_words.specs.Handed.{kind_from}
-use borrow.Author.Rules.{rules}
 use Rattle.c_words.proofs.inner.handed.kind_at.Goals as goal
 
 pub returns-then-number_at-eq0 : goal.returns-then-number_at-eq0

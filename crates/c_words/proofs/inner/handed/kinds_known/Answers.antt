@@ -1,13 +1,8 @@
-use Prim.Native.Nat.{◌-◌, ◌≤◌}
-use mathlib.Core.Path.{◌≡◌, sym}
+use mathlib.Core.Path.{sym}
 use native.Mathlib.Omega.{arith}
-use lib.ListN.{length}
-use mathlib.Core.Bool.{true}
-use Rattle.laws.specs.Below.{all_below}
 use Rattle.laws.proofs.BelowLaws.{all_none, all_more, all_fails, all_done}
 use Rattle.c_words.proofs.HandedLaws.{kind_known_lem, kind_unknown}
-use Rattle.c_words.specs.Handed.{kind_known, kinds_known}
-use borrow.Author.Rules.{rules}
+use Rattle.c_words.specs.Handed.{kinds_known}
 use Rattle.c_words.proofs.inner.handed.kinds_known.Goals as goal
 
 pub loop-i-init : goal.loop-i-init

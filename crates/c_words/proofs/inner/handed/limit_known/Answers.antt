@@ -6,7 +6,6 @@ use Rattle.laws.proofs.Tests.{held, failed}
 use Rattle.laws.proofs.BelowLaws.{and_yes, and_no}
 use Rattle.graph_tables.specs.Sizes.{word32}
 use Rattle.c_words.specs.Handed.{limit_known}
-use borrow.Author.Rules.{rules}
 use Rattle.c_words.proofs.inner.handed.limit_known.Goals as goal
 
 pub returns-then-ws-i-gt4294967295 : goal.returns-then-ws-i-gt4294967295

@@ -1,5 +1,4 @@
 use Rattle.c_words.specs.Handed.{limits_from}
-use borrow.Author.Rules.{rules}
 use Rattle.c_words.proofs.inner.handed.limits_of.Goals as goal
 
 pub returns : goal.returns

@@ -1,5 +1,4 @@
 use Rattle.c_words.specs.Handed.{slot_from}
-use borrow.Author.Rules.{rules}
 use Rattle.c_words.proofs.inner.handed.slot_at.Goals as goal
 
 pub returns : goal.returns

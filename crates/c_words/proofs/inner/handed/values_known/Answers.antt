@@ -1,13 +1,9 @@
-use Prim.Native.Nat.{◌-◌, ◌/◌, ◌≤◌}
-use mathlib.Core.Path.{◌≡◌, sym}
+use mathlib.Core.Path.{sym}
 use native.Mathlib.Omega.{arith}
-use lib.ListN.{length}
 use borrow.Author.Tests.{eq-eqb, ne_eqb}
 use Rattle.laws.proofs.Tests.{held, failed}
-use mathlib.Core.Bool.{true}
-use Rattle.laws.specs.Below.{all_below}
 use Rattle.laws.proofs.BelowLaws.{and_yes, and_no, all_none, all_more, all_fails, all_done}
-use Rattle.c_words.specs.Handed.{value_known, values_known}
+use Rattle.c_words.specs.Handed.{values_known}
 use Rattle.c_words.proofs.inner.handed.values_known.Goals as goal
 
 pub returns-then-ws-ne0 : goal.returns-then-ws-ne0

@@ -1,5 +1,4 @@
 use Rattle.c_words.specs.Handed.{vars_from}
-use borrow.Author.Rules.{rules}
 use Rattle.c_words.proofs.inner.handed.vars_of.Goals as goal
 
 pub returns : goal.returns

@@ -1,5 +1,4 @@
 use mathlib.Core.Bool.{false}
-use borrow.Author.Rules.{rules}
 use borrow.Author.Tests.{eq-eqb, ne_eqb}
 use Rattle.laws.proofs.BelowLaws.{and_yes, and_no}
 use Rattle.laws.proofs.Tests.{held, failed}

@@ -1,5 +1,4 @@
 use mathlib.Core.Path.{refl}
-use borrow.Author.Rules.{rules}
 use Rattle.laws.specs.Ladder.{unless}
 use Rattle.laws.proofs.Tests.{held, failed}
 use Rattle.c_words.specs.Lent.{moved_as, said_at}

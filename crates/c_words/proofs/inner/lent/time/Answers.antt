@@ -2,7 +2,6 @@ use Prim.Native.Nat.{◌<◌}
 use Rattle.graph_tables.specs.Sizes.{clock_room}
 use mathlib.Core.Path.{refl}
 use native.Mathlib.Omega.{arith}
-use borrow.Author.Rules.{rules}
 use borrow.Author.Tests.{lt-ltb, le-ltb}
 use Rattle.laws.specs.Ladder.{unless}
 use Rattle.laws.proofs.Tests.{held, failed}

@@ -2,7 +2,6 @@ use Prim.Native.Nat.{◌<◌}
 use Rattle.graph_tables.specs.Sizes.{variable_room}
 use mathlib.Core.Path.{ap}
 use native.Mathlib.Omega.{arith}
-use borrow.Author.Rules.{rules}
 use borrow.Author.Tests.{lt-ltb, le-ltb}
 use Rattle.laws.proofs.Ladder.{passed, stopped}
 use Rattle.laws.proofs.Tests.{held, failed}

@@ -1,6 +1,5 @@
 use mathlib.Core.Path.{sym}
 use Rattle.c_words.proofs.SliceLaws.{read_past}
-use borrow.Author.Rules.{rules}
 use Rattle.c_words.proofs.inner.values.number_at.Goals as goal
 
 pub returns-then-ns-i : goal.returns-then-ns-i

@@ -1,6 +1,5 @@
 use mathlib.Core.Path.{sym}
 use Rattle.c_words.proofs.SliceLaws.{write_past}
-use borrow.Author.Rules.{rules}
 use Rattle.c_words.proofs.inner.values.put.Goals as goal
 
 pub returns-else-i-out : goal.returns-else-i-out

@@ -1,4 +1,3 @@
-use borrow.Author.Rules.{rules}
 use Rattle.c_words.proofs.inner.values.put_value.Goals as goal
 
 pub returns : goal.returns

@@ -1,6 +1,5 @@
 use mathlib.Core.Path.{sym}
 use Rattle.c_words.proofs.SliceLaws.{read_past}
-use borrow.Author.Rules.{rules}
 use Rattle.c_words.proofs.inner.values.word_at.Goals as goal
 
 pub returns-then-ws-i : goal.returns-then-ws-i
