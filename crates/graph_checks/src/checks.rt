@@ -470,6 +470,7 @@ pub fn receive_check(t: &[u64], handed: Vars) -> Done
     Done::Accepted
 }
 
+#[tactic(auto, unfolding(crate::specs::Checks::ends_check, laws::specs::Ladder::unless))]
 fn ends_check(t: &[u64], pre: u32, action: u32, post: u32) -> Done
     requires { Sound t.now }
     ensures { result ≡ ends_check t.now pre action post }

@@ -371,6 +371,7 @@ fn guard_formed(t: &[u64], k: usize) -> bool
     digits::guards(known_at(t, inner::guard_length(t, k), places::guard_slot(k)))
 }
 
+#[tactic(auto, using(laws::proofs::BelowLaws::and_yes, laws::proofs::BelowLaws::and_no, crate::proofs::FormedLaws::no_limits_lem), unfolding(crate::specs::Formed::transition_formed))]
 fn transition_formed(t: &[u64], k: usize) -> bool
     requires { Words t.now × (variable_count t.now ≤ variable_room) × KindsFit t.now × (k < transition_room) }
     ensures { result ≡ transition_formed t.now k }
