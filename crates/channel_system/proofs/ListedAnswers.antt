@@ -99,14 +99,14 @@ module _ (t s : List ℕ) where
 
 -- ---- one graph
 module _ (t s : List ℕ) (fits : system_fits t s ≡ true) (g : ℕ) (known : g < graph_count t) where
-  pub call_on_graph : (k : ℕ) → possible_on t s g k ≡ entry_or_end (seek (listed_on t s g) k)
+  pub on_graph_lem : (k : ℕ) → possible_on t s g k ≡ entry_or_end (seek (listed_on t s g) k)
   unfolding possible_on
-  call_on_graph k = sym (passed (OnGraph.Refused (refusal 32)) fits (passed (OnGraph.Refused (refusal 17)) (lt-ltb _ _ known) refl))
+  on_graph_lem k = sym (passed (OnGraph.Refused (refusal 32)) fits (passed (OnGraph.Refused (refusal 17)) (lt-ltb _ _ known) refl))
 
   -- It says that k is past the end exactly when the list of graph g has no entry k.
   pub graph_end : (k : ℕ) → (possible_on t s g k ≡ OnGraph.End) ↔ (length (listed_on t s g) ≤ k)
   graph_end k =
-      subst (λ (x : Graph.Listed). (x ≡ OnGraph.End) ↔ (length (listed_on t s g) ≤ k)) (sym (call_on_graph k)) (seek_end (listed_on t s g) k)
+      subst (λ (x : Graph.Listed). (x ≡ OnGraph.End) ↔ (length (listed_on t s g) ≤ k)) (sym (on_graph_lem k)) (seek_end (listed_on t s g) k)
 
   module _ (sound : SystemSound t) where
     -- Every entry that is listed for graph g is of a row that may be taken and that its channel lets through.
@@ -114,7 +114,7 @@ module _ (t s : List ℕ) (fits : system_fits t s ≡ true) (g : ℕ) (known : g
         → (r : Row) × OpenOn t s g r × (e ≡ entry_for (graph_part t g) r)
     entry_open k e h =
         let c = graph_lists t s g (sound.graph g known) in
-        let m = found_in (listed_on t s g) k (found (seek (listed_on t s g) k) e (sym (call_on_graph k) ∙ h)) in
+        let m = found_in (listed_on t s g) k (found (seek (listed_on t s g) k) e (sym (on_graph_lem k) ∙ h)) in
         let x = in_map (entry_for (graph_part t g)) c.rows (subst (λ (l : List Entry). Memᴰ e l) c.entries m) in
         (x.0, c.only x.0 x.1, x.2)
 
@@ -125,14 +125,14 @@ module _ (t s : List ℕ) (fits : system_fits t s ≡ true) (g : ℕ) (known : g
         let m = subst (λ (l : List Entry). Memᴰ (entry_for (graph_part t g) r) l) (sym c.entries)
         (Memᴰ.map (entry_for (graph_part t g)) (c.every r h)) in
         let x = in_found m in
-        (x.0, call_on_graph x.0 ∙ ap entry_or_end x.1)
+        (x.0, on_graph_lem x.0 ∙ ap entry_or_end x.1)
 
     -- Later entries are not before earlier ones, by action, process and post.
     pub entries_ascend : (i j : ℕ) (d e : Entry) → i < j → possible_on t s g i ≡ OnGraph.At d → possible_on t s g j ≡ OnGraph.At e
         → AtMost d e
     entries_ascend i j d e l h k =
         found_ascending AtMost (listed_on t s g) (graph_ascends t s sound g known) i j l
-        (found (seek (listed_on t s g) i) d (sym (call_on_graph i) ∙ h)) (found (seek (listed_on t s g) j) e (sym (call_on_graph j) ∙ k))
+        (found (seek (listed_on t s g) i) d (sym (on_graph_lem i) ∙ h)) (found (seek (listed_on t s g) j) e (sym (on_graph_lem j) ∙ k))
 
   -- With one process the listing for one process lists the same.
   pub one_process : (k : ℕ) → (run_of s g).processes ≡ 1 → nosync_on t s g k ≡ possible_on t s g k
@@ -141,7 +141,7 @@ module _ (t s : List ℕ) (fits : system_fits t s ≡ true) (g : ℕ) (known : g
       sym
       (passed (OnGraph.Refused (refusal 32)) fits
       (passed (OnGraph.Refused (refusal 17)) (lt-ltb _ _ known)
-      (passed (OnGraph.Refused (refusal 16)) (eq-eqb _ _ e) (call_on_graph k))))
+      (passed (OnGraph.Refused (refusal 16)) (eq-eqb _ _ e) (on_graph_lem k))))
 
   -- With any other number it answers 16.
   pub not_one_process : (k : ℕ) → ((run_of s g).processes ≡ 1 → ⊥) → nosync_on t s g k ≡ OnGraph.Refused (refusal 16)

@@ -50,7 +50,7 @@ module _ (s : List ℕ) (words : StateWords s) where
     pub with_time_queue : (q : ℕ) → q < channel_room → queue_part (with_time s n) q ≡ queue_part s q
     with_time_queue = time_queue words (with_time_elsewhere s n)
 
-  -- another run of graph g; the run itself is `with-run-part`
+  -- another run of graph g; the run itself is `with_run_part`
   module _ (g : ℕ) (small : g < graph_room) (new : List ℕ) (size : RunWords new) where
     pub with_run_words : StateWords (with_run s g new)
     with_run_words = (with_run_elsewhere s new words g small size).sizes ∙ words
