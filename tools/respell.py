@@ -4,7 +4,8 @@
 usage: tools/respell.py [--check]      at the top of a repository that port.py has turned
 
 `wordAt` becomes `word_at`, and `all-kept` becomes `all_kept`. A lemma that would so get the name of a definition gets `_lem` behind it. Types, modules,
-names of Rust, library names and strings stay. What a Proof.antt declares is turned in that file alone. A second run changes nothing.
+names of Rust, library names and strings stay. What a Proof.antt declares is turned in that file alone. It was run once (docs/PORT.md) and is kept to show
+what it did; a tree in which no Proof.antt is left it leaves alone, since it would turn the names of goals too.
 """
 import os
 import re
@@ -64,6 +65,9 @@ def main():
     OWN = set(os.listdir("crates"))
     check = "--check" in sys.argv[1:]
     files = {p: read(p) for p in texts()}
+    if not any(p.endswith("/Proof.antt") for p in files):
+        print("respell: no proof walks the code here: nothing to do", file=sys.stderr)
+        return 2
     names, lent = {}, {}
     for p, t in files.items():
         if p.endswith(".antt") and not p.endswith("Proof.antt"):
