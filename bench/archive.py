@@ -27,6 +27,7 @@ BLANKS = {
     "u64": "0",
     "usize": "0",
     "ProgramGraphRun": "program_graph::inner::fresh::no_run()",
+    "&mut ProgramGraphRun": "&mut run",
     "Message": "message_of(0, 0)",
 }
 
@@ -44,7 +45,12 @@ HEAD = """// The exports of the bench.
 ghost use Rattle.std.specs.Prelude.{◌<◌};
 
 """
-NEVER = r"\1\n    requires { 1 < 0 }\n{"
+NEVER = r"\g<head>\n    requires { 1 < 0 }\n{"
+
+# The head of an export. A function over a type is none: it is reached from the exports, and C cannot call it.
+EXPORT = re.compile(
+    r"^(?P<head>fn (?P<name>\w+)(?:<'a>)?\((?P<parameters>(?:(?!^fn ).)*?)\)(?: -> (?P<answer>[^\n]+))?) \{$", flags=re.M | re.S
+)
 
 # What the toolchain hands its compiler for a static library.
 OPTIONS = (
@@ -55,10 +61,10 @@ OPTIONS = (
 
 def functions(text):
     """Each function of the exports: its name, the types of its parameters, the type of its answer."""
-    heads = re.findall(r"^fn (\w+)(?:<'a>)?\(([^)]*)\)(?: -> ([\w:]+))? \{", text, flags=re.M)
-    for name, parameters, answer in heads:
-        types = [part.split(":", 1)[1].strip().replace("&'a ", "&") for part in parameters.split(",") if ":" in part]
-        yield name, types, answer
+    for found in EXPORT.finditer(text):
+        parameters = re.split(r",\s*(?=\w+: )", found["parameters"].strip(" ,\n"))
+        types = [part.split(": ", 1)[1].replace("&'a ", "&") for part in parameters if part]
+        yield found["name"], types, found["answer"]
 
 
 def reaching(text):
@@ -86,6 +92,7 @@ fn main() {{
         let mut words = [0u64; 8];
         let read = [0u64; 8];
         let places = [0u32; 1];
+        let mut run = program_graph::inner::fresh::no_run();
 {calls}
     }}
 }}
@@ -131,8 +138,7 @@ def main():
 
         exports = (here / "exports.rattle").read_text()
         (crate / "src").mkdir(parents=True)
-        whole = re.sub(r"^(fn \w+(?:<'a>)?\([^)]*\)(?: -> [\w:]+)?) \{", NEVER, exports, flags=re.M)
-        (crate / "src/main.rt").write_text(HEAD + whole + reaching(exports))
+        (crate / "src/main.rt").write_text(HEAD + EXPORT.sub(NEVER, exports) + reaching(exports))
         words = [kit / "bin/rattle", "build", "--crate-name", CRATE, "src/main.rt", "-L", f"dependency={kit}/rlibs"]
         libraries |= {name: f"{kit}/rlibs/{name}.rlib" for name in ("core", "std")}
         for name, library in libraries.items():

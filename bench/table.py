@@ -20,7 +20,7 @@ LEVEL = 1.03
 REASONS = {
     "a": "The test behind 32: a public call reads the whole table and the run or the state before anything else. The Rust's types keep "
     "its graphs and runs sound, so it asks nothing.",
-    "b": "A public call on one graph is handed the run by value, puts it into words and reads it back.",
+    "b": "A public call on one graph puts the run into words and reads it back.",
     "c": "Transitions are looked for from the first to the last, and where none fits all are passed over. The Rust has those of each "
     "location apart, and finds an action among them by halving.",
     "d": "Entry k is looked for from the first entry on, for each k anew. The Rust's iterator goes on where it was.",
@@ -220,7 +220,7 @@ def by_crate(port):
     for name in port.reached(exports(port, "egpst")):
         export = re.fullmatch(r"bench_([a-z])_\w+", name)
         crate = CRATES[export[1]] if export else name.split("::")[0]
-        sums["handed in" if crate.startswith("bench_") else crate] += port.size.get(name, 0)
+        sums["handed in" if crate.startswith("bench") else crate] += port.size.get(name, 0)
     yield "| Crate | Bytes |"
     yield "|---|---|"
     yield from (f"| `{crate}` | {size:,} |" for crate, size in sums.most_common() if crate != "handed in")

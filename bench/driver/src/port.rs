@@ -1,7 +1,7 @@
 //! The port's side: its archive's exports (bench/exports.rattle), on tables and states that stand here.
 //!
-//! An export takes a slice as the address of its start and length, and a struct as its address; it writes a struct that it answers with
-//! to an address that is handed in first.
+//! An export takes a slice as two arguments, its start and its length, and a struct as its address; it writes a struct that it answers
+//! with to an address that is handed in first. An answer of two small parts comes back in two registers, and is handed in so.
 
 use crate::counted;
 use crate::graphs::{Call, Item, Items, Limit, Op};
@@ -19,7 +19,6 @@ const RING: u64 = 64;
 /// How many values a channel of the systems has room for: two messages.
 pub const CAPACITY: u32 = 4;
 
-#[repr(C)]
 struct Slice {
     start: *const u8,
     length: usize,
@@ -52,20 +51,48 @@ impl Blob {
 
 type Out = *mut Blob;
 type In = *const Blob;
-type At = *const Slice;
+type At<'a> = &'a Slice;
 
-unsafe extern "C" {
-    fn bench_done_number(done: In) -> u32;
-    fn bench_held_number(held: In) -> u32;
+/// Whether a call was accepted, and with what or why not: the lowest byte of each word; what stands above is no part of it.
+#[repr(C)]
+#[derive(Clone, Copy)]
+struct Two(u64, u64);
+
+/// Each export, and a call of it that takes a slice whole.
+macro_rules! exports {
+    ($(fn $name:ident($($given:ident: $kind:ident),* $(,)?) $(-> $answer:ident)?;)*) => {
+        $(export!($name ($($answer)?) [] [] $($given: $kind,)*; $($given: $kind),*);)*
+    };
+}
+
+macro_rules! export {
+    ($name:ident ($($answer:ident)?) [$($taken:ty,)*] [$($handed:expr,)*] $given:ident: At, $($rest:tt)*) => {
+        export!($name ($($answer)?) [$($taken,)* *const u8, usize,] [$($handed,)* $given.start, $given.length,] $($rest)*);
+    };
+    ($name:ident ($($answer:ident)?) [$($taken:ty,)*] [$($handed:expr,)*] $given:ident: $kind:ident, $($rest:tt)*) => {
+        export!($name ($($answer)?) [$($taken,)* $kind,] [$($handed,)* $given,] $($rest)*);
+    };
+    ($name:ident ($($answer:ident)?) [$($taken:ty,)*] [$($handed:expr,)*]; $($given:ident: $kind:ident),*) => {
+        #[inline(always)]
+        unsafe fn $name($($given: $kind),*) $(-> $answer)? {
+            unsafe extern "C" {
+                fn $name($(_: $taken),*) $(-> $answer)?;
+            }
+            unsafe { $name($($handed),*) }
+        }
+    };
+}
+
+exports! {
+    fn bench_done_number(done: Two) -> u32;
+    fn bench_held_number(held: Two) -> u32;
     fn bench_listed_words(listed: In, out: At);
-    fn bench_stepped_number(stepped: In) -> u32;
-    fn bench_stepped_run(out: Out, stepped: In);
+    fn bench_fresh_number(fresh: In) -> u32;
+    fn bench_fresh_run(out: Out, fresh: In);
     fn bench_sent_words(sent: In, out: At) -> u32;
-    fn bench_sent_run(out: Out, sent: In);
-    fn bench_said_words(said: In, out: At) -> u32;
     fn bench_run_words(run: In, out: At);
     fn bench_message_of(out: Out, x: i32, y: i32);
-    fn bench_told_words(stepped: In, out: At) -> u32;
+    fn bench_told_words(told: In, out: At) -> u32;
     fn bench_waited_number(waited: In) -> u32;
     fn bench_all_listed_words(listed: In, out: At);
 
@@ -122,29 +149,29 @@ unsafe extern "C" {
     fn bench_p_formed(t: At) -> bool;
     fn bench_p_fits(t: At, run: In) -> bool;
     fn bench_p_new(out: Out, t: At);
-    fn bench_p_step(out: Out, run: In, t: At, a: u32, posts: At);
-    fn bench_p_send(out: Out, run: In, t: At, a: u32, posts: At);
-    fn bench_p_receive(out: Out, run: In, t: At, a: u32, posts: At, message: In);
-    fn bench_p_wait(out: Out, run: In, t: At, delta: u32);
-    fn bench_p_can_wait(out: Out, run: In, t: At, delta: u32);
-    fn bench_p_is_waiting(out: Out, run: In, t: At);
+    fn bench_p_step(run: Out, t: At, a: u32, posts: At) -> Two;
+    fn bench_p_send(out: Out, run: Out, t: At, a: u32, posts: At);
+    fn bench_p_receive(run: Out, t: At, a: u32, posts: At, message: In) -> Two;
+    fn bench_p_wait(run: Out, t: At, delta: u32) -> Two;
+    fn bench_p_can_wait(run: In, t: At, delta: u32) -> Two;
+    fn bench_p_is_waiting(run: In, t: At) -> Two;
     fn bench_p_listed(out: Out, run: In, t: At, k: usize);
 
     fn bench_i_new(t: At, r: At);
-    fn bench_i_step(out: Out, t: At, r: At, a: u32, posts: At);
+    fn bench_i_step(t: At, r: At, a: u32, posts: At) -> Two;
     fn bench_i_send(out: Out, t: At, r: At, a: u32, posts: At);
-    fn bench_i_receive(out: Out, t: At, r: At, a: u32, posts: At, message: In);
-    fn bench_i_wait(out: Out, t: At, r: At, delta: u32);
+    fn bench_i_receive(t: At, r: At, a: u32, posts: At, message: In) -> Two;
+    fn bench_i_wait(t: At, r: At, delta: u32) -> Two;
     fn bench_i_can_wait(t: At, r: At, delta: u32) -> bool;
     fn bench_i_is_waiting(t: At, r: At) -> bool;
     fn bench_i_listed(out: Out, t: At, r: At, k: usize);
 
     fn bench_t_fits(t: At, s: At) -> bool;
-    fn bench_t_new(out: Out, t: At, s: At);
+    fn bench_t_new(t: At, s: At) -> Two;
     fn bench_t_step(out: Out, t: At, s: At, g: u32, a: u32, posts: At);
     fn bench_t_wait(out: Out, t: At, s: At, delta: u32);
-    fn bench_t_can_wait(out: Out, t: At, s: At, delta: u32);
-    fn bench_t_is_waiting(out: Out, t: At, s: At);
+    fn bench_t_can_wait(t: At, s: At, delta: u32) -> Two;
+    fn bench_t_is_waiting(t: At, s: At) -> Two;
     fn bench_t_listed(out: Out, t: At, s: At, k: usize);
 
     fn bench_u_step(out: Out, t: At, s: At, g: u32, a: u32, posts: At);
@@ -428,30 +455,26 @@ impl<'t> InnerRun<'t> {
                 Call::Step(a, post) => {
                     let posts = [post];
                     let posts = &slice(&posts);
-                    counted!(stretch, "inner", bench_i_step(out, t, r, a, posts));
-                    vec![bench_done_number(out).into()]
+                    let done = counted!(stretch, "inner", bench_i_step(t, r, a, posts));
+                    vec![bench_done_number(done).into()]
                 }
                 Call::Send(a, post) => {
                     let posts = [post];
                     let posts = &slice(&posts);
                     counted!(stretch, "inner", bench_i_send(out, t, r, a, posts));
-                    let number = bench_said_words(out, &slice_mut(&mut words));
+                    let number = bench_sent_words(out, &slice_mut(&mut words));
                     with_values(number, &words)
                 }
                 Call::Receive(a, post, values) => {
                     let posts = [post];
                     let posts = &slice(&posts);
                     let message = &message(values);
-                    counted!(
-                        stretch,
-                        "inner",
-                        bench_i_receive(out, t, r, a, posts, message)
-                    );
-                    vec![bench_done_number(out).into()]
+                    let done = counted!(stretch, "inner", bench_i_receive(t, r, a, posts, message));
+                    vec![bench_done_number(done).into()]
                 }
                 Call::Wait(delta) => {
-                    counted!(stretch, "inner", bench_i_wait(out, t, r, delta));
-                    vec![bench_done_number(out).into()]
+                    let done = counted!(stretch, "inner", bench_i_wait(t, r, delta));
+                    vec![bench_done_number(done).into()]
                 }
                 Call::CanWait(delta) => {
                     vec![counted!(stretch, "inner", bench_i_can_wait(t, r, delta)).into()]
@@ -488,7 +511,7 @@ fn entries_of(outs: &[Blob]) -> Vec<u64> {
     answer
 }
 
-/// A run as a value, which public calls are handed and give back.
+/// A run as a value, which public calls are handed, those that move it to change.
 pub struct PublicRun<'t> {
     table: &'t Table,
     run: Blob,
@@ -501,11 +524,10 @@ impl<'t> PublicRun<'t> {
         let t = &slice(&table.words);
         let mut out = Blob::new();
         let mut run = Blob::new();
-        // A fresh run's answer has the parts of a step's, in their order; so have a wait's and a receive's.
         unsafe {
             counted!(stretch, "public", bench_p_new(&mut out, t));
-            assert_eq!(bench_stepped_number(&out), 0);
-            bench_stepped_run(&mut run, &out);
+            assert_eq!(bench_fresh_number(&out), 0);
+            bench_fresh_run(&mut run, &out);
         }
         PublicRun { table, run }
     }
@@ -525,18 +547,11 @@ impl<'t> PublicRun<'t> {
         assert!(unsafe { counted!(stretch, "public", bench_p_fits(t, run)) });
     }
 
-    fn moved(&mut self, out: &Blob) -> Vec<u64> {
-        unsafe {
-            bench_stepped_run(&mut self.run, out);
-            vec![bench_stepped_number(out).into()]
-        }
-    }
-
     #[inline(never)]
     #[unsafe(link_section = "driver_calls")]
     pub fn call(&mut self, call: Call, stretch: &Stretch) -> Vec<u64> {
         let t = &slice(&self.table.words);
-        let run = &self.run.clone();
+        let run = &mut self.run;
         let out = &mut Blob::new();
         let mut words = [0; 8];
         unsafe {
@@ -544,39 +559,38 @@ impl<'t> PublicRun<'t> {
                 Call::Step(a, post) => {
                     let posts = [post];
                     let posts = &slice(&posts);
-                    counted!(stretch, "public", bench_p_step(out, run, t, a, posts));
-                    self.moved(out)
+                    let done = counted!(stretch, "public", bench_p_step(run, t, a, posts));
+                    vec![bench_done_number(done).into()]
                 }
                 Call::Send(a, post) => {
                     let posts = [post];
                     let posts = &slice(&posts);
                     counted!(stretch, "public", bench_p_send(out, run, t, a, posts));
                     let number = bench_sent_words(out, &slice_mut(&mut words));
-                    bench_sent_run(&mut self.run, out);
                     with_values(number, &words)
                 }
                 Call::Receive(a, post, values) => {
                     let posts = [post];
                     let posts = &slice(&posts);
                     let message = &message(values);
-                    counted!(
+                    let done = counted!(
                         stretch,
                         "public",
-                        bench_p_receive(out, run, t, a, posts, message)
+                        bench_p_receive(run, t, a, posts, message)
                     );
-                    self.moved(out)
+                    vec![bench_done_number(done).into()]
                 }
                 Call::Wait(delta) => {
-                    counted!(stretch, "public", bench_p_wait(out, run, t, delta));
-                    self.moved(out)
+                    let done = counted!(stretch, "public", bench_p_wait(run, t, delta));
+                    vec![bench_done_number(done).into()]
                 }
                 Call::CanWait(delta) => {
-                    counted!(stretch, "public", bench_p_can_wait(out, run, t, delta));
-                    vec![bench_held_number(out).into()]
+                    let held = counted!(stretch, "public", bench_p_can_wait(run, t, delta));
+                    vec![bench_held_number(held).into()]
                 }
                 Call::IsWaiting => {
-                    counted!(stretch, "public", bench_p_is_waiting(out, run, t));
-                    vec![bench_held_number(out).into()]
+                    let held = counted!(stretch, "public", bench_p_is_waiting(run, t));
+                    vec![bench_held_number(held).into()]
                 }
                 Call::First => {
                     counted!(stretch, "public", bench_p_listed(out, run, t, 0));
@@ -585,7 +599,7 @@ impl<'t> PublicRun<'t> {
                 }
                 Call::Whole(entries) => {
                     let mut outs = vec![Blob::new(); entries + 1];
-                    let runs = vec![self.run.clone(); entries + 1];
+                    let runs = vec![run.clone(); entries + 1];
                     counted!(stretch, "public", k of outs.len(), bench_p_listed(&mut outs[k], &runs[k], t, k));
                     entries_of(&outs)
                 }
@@ -610,10 +624,9 @@ impl<'t> State<'t> {
         let mut words = vec![0; STATE_WORDS];
         let t = &slice(&table.words);
         let s = &slice_mut(&mut words);
-        let out = &mut Blob::new();
         unsafe {
-            counted!(stretch, "public", bench_t_new(out, t, s));
-            assert_eq!(bench_done_number(out), 0);
+            let done = counted!(stretch, "public", bench_t_new(t, s));
+            assert_eq!(bench_done_number(done), 0);
         }
         State {
             table,
@@ -700,15 +713,15 @@ impl<'t> State<'t> {
                             counted!(stretch, "inner", bench_u_can_wait(t, s, delta)).into(),
                         ];
                     }
-                    counted!(stretch, "public", bench_t_can_wait(out, t, s, delta));
-                    vec![bench_held_number(out).into()]
+                    let held = counted!(stretch, "public", bench_t_can_wait(t, s, delta));
+                    vec![bench_held_number(held).into()]
                 }
                 Call::IsWaiting => {
                     if !public {
                         return vec![counted!(stretch, "inner", bench_u_is_waiting(t, s)).into()];
                     }
-                    counted!(stretch, "public", bench_t_is_waiting(out, t, s));
-                    vec![bench_held_number(out).into()]
+                    let held = counted!(stretch, "public", bench_t_is_waiting(t, s));
+                    vec![bench_held_number(held).into()]
                 }
                 Call::First => {
                     if public {

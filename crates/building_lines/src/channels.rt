@@ -1,17 +1,14 @@
 // Lines on the channels of a system.
 use crate::capacities;
-use crate::capacities::Capacity;
 use grammar::values;
 use grammar::values::Type;
-use graph_tables::answers::Done;
-use graph_tables::sizes;
-use graph_text::{answers, lists};
+use graph_text::faults::Fault;
+use graph_text::lines::Line;
+use graph_text::replies::Reply;
 use system_builder;
-use system_builder::answers::ChannelRead;
 use system_builder::handed::{Kind, Kinds};
-use system_tables::ids::Channel;
-use text::numbers::Small;
-use text::{output, tokens};
+use system_tables::ids::{Channel, ChannelCapacity};
+use text::rows;
 
 // The most kinds of a line.
 const KINDS: usize = 6;
@@ -27,91 +24,55 @@ fn kind(word: u64) -> Kind {
     }
 }
 
-// A list may be longer than the call takes: its count is handed over, and what has no room is left out.
-fn kinds(words: [u64; KINDS], count: usize) -> Kinds {
-    Kinds {
-        kinds: [
-            kind(words[0]),
-            kind(words[1]),
-            kind(words[2]),
-            kind(words[3]),
-        ],
+// KINDS. A list may be longer than the call takes: its count is handed over, and what has no room is left out.
+fn read_kinds(token: &[u8]) -> Option<Kinds> {
+    let mut words = [0u64; KINDS];
+    let count = text::lists::read_kinds(token, &mut words)?;
+    let [a, b, c, d, ..] = words;
+    Some(Kinds {
+        kinds: [kind(a), kind(b), kind(c), kind(d)],
         count,
-    }
+    })
 }
 
 // s channel KINDS CAP
-pub fn channel(line: &[u8], at: usize, t: &mut [u64], out: &mut [u8]) -> usize {
-    let mut words = [0u64; KINDS];
-    let token = tokens::token(line, at);
-    let text::lists::Kinds::Are(count) = text::lists::read_kinds(token, &mut words) else {
-        return text::answers::bad(out);
-    };
-    let second = tokens::next(line, at);
-    let Capacity::Is(capacity) = capacities::read_capacity(tokens::token(line, second)) else {
-        return text::answers::bad(out);
-    };
-    if !tokens::ended(line, tokens::next(line, second)) {
-        return text::answers::bad(out);
-    }
-    answers::placed(
-        out,
-        system_builder::new_channel(t, kinds(words, count), capacity),
-    )
+pub fn channel(mut line: Line, t: &mut [u64]) -> Result<u32, Fault> {
+    let kinds = line.read(read_kinds)?;
+    let capacity = line.read(capacities::read_capacity)?;
+    line.end()?;
+    Ok(system_builder::new_channel(t, kinds, capacity)?)
 }
 
-fn put_kind(out: &mut [u8], at: usize, kind: Type) -> usize {
+fn put_kind(out: &mut Reply, kind: Type) {
     match kind {
-        Type::Boolean => output::put(out, at, b'b'),
-        Type::Integer => output::put(out, at, b'i'),
+        Type::Boolean => out.put(b'b'),
+        Type::Integer => out.put(b'i'),
     }
 }
 
-// A letter for each kind.
-fn put_letters(out: &mut [u8], at: usize, kinds: [Kind; sizes::MESSAGE], count: usize) -> usize {
-    let mut here = at;
-    for k in 0usize..sizes::MESSAGE {
-        if count <= k {
-            return here;
-        }
-        let item = kinds[k];
-        let kind = item.kind;
-        here = put_kind(out, here, kind);
-    }
-    here
-}
-
-fn put_kinds(out: &mut [u8], at: usize, list: Kinds) -> usize {
+// A letter for each kind; `-` for none.
+fn put_kinds(out: &mut Reply, list: Kinds) {
     if list.count == 0 {
-        return output::put(out, at, b'-');
+        return out.put(b'-');
     }
-    let kinds = list.kinds;
-    put_letters(out, at, kinds, list.count)
+    for item in rows::part(&list.kinds, list.count) {
+        put_kind(out, item.kind);
+    }
 }
 
 // Its kinds and its capacity, as they stand in `s channel`.
-fn put_channel(out: &mut [u8], read: ChannelRead) -> usize {
-    let kinds = read.kinds;
-    let capacity = read.capacity;
-    let a = output::put_all(out, 0, b"ok ");
-    let b = put_kinds(out, a, kinds);
-    let c = output::put(out, b, b' ');
-    let d = capacities::put_capacity(out, c, capacity);
-    text::answers::end(out, d)
-}
-
-fn told(out: &mut [u8], read: ChannelRead) -> usize {
-    let answer = read.answer;
-    match answer {
-        Done::Accepted => put_channel(out, read),
-        Done::Refused(r) => text::answers::refused(out, r.number()),
-    }
+fn put_channel(out: &mut Reply, kinds: Kinds, capacity: ChannelCapacity) {
+    out.put_all(b"ok ");
+    put_kinds(out, kinds);
+    out.put(b' ');
+    capacities::put_capacity(out, capacity);
+    out.end();
 }
 
 // s capacity Q
-pub fn capacity(line: &[u8], at: usize, t: &[u64], out: &mut [u8]) -> usize {
-    let Small::Is(q) = lists::read_last_number(line, at) else {
-        return text::answers::bad(out);
-    };
-    told(out, system_builder::channel(t, Channel(q)))
+pub fn capacity(line: Line, t: &[u64], out: &mut Reply) -> Result<(), Fault> {
+    let read = system_builder::channel(t, Channel(line.last_number()?));
+    read.answer?;
+    put_channel(out, read.kinds, read.capacity);
+    Ok(())
 }

@@ -1,30 +1,35 @@
 // Lines that build one graph, on a table of its own.
-use crate::owners::{Carrier, Owner};
+use crate::builders::Alone;
 use crate::{building, messages};
 use graph_builder;
-use graph_text::answers;
-use text::tokens;
+use graph_text::faults::Fault;
+use graph_text::lines::Line;
+use graph_text::replies::Reply;
 
-// g build
-fn build(line: &[u8], at: usize, t: &[u64], out: &mut [u8]) -> usize {
-    if !tokens::ended(line, at) {
-        return text::answers::bad(out);
+fn answered(mut line: Line, t: &mut [u64], out: &mut Reply) -> Result<(), Fault> {
+    match line.next() {
+        b"send" => {
+            let placed = messages::send(line, |count, w, x, y, z| {
+                graph_builder::new_send(t, count, w, x, y, z)
+            })?;
+            out.ok_number(placed);
+        }
+        b"receive" => {
+            let placed = messages::receive(line, |vars| graph_builder::new_receive(t, vars))?;
+            out.ok_number(placed);
+        }
+        b"build" => {
+            line.end()?;
+            graph_builder::build(t)?;
+            out.ok();
+        }
+        verb => building::answer(verb, line, &mut Alone { table: t }, out)?,
     }
-    answers::done(out, graph_builder::build(t))
+    Ok(())
 }
 
 // Every line behind `g` but `g new`.
-pub fn answer(line: &[u8], at: usize, t: &mut [u64], out: &mut [u8]) -> usize {
-    let verb = tokens::token(line, at);
-    let next = tokens::next(line, at);
-    if tokens::is(verb, b"send") {
-        return messages::send(line, next, t, Carrier::Alone, out);
-    }
-    if tokens::is(verb, b"receive") {
-        return messages::receive(line, next, t, Carrier::Alone, out);
-    }
-    if tokens::is(verb, b"build") {
-        return build(line, next, t, out);
-    }
-    building::answer(line, verb, next, t, Owner::Alone, out)
+pub fn answer(line: Line, t: &mut [u64], out: &mut Reply) {
+    let told = answered(line, t, out);
+    out.tell(told);
 }

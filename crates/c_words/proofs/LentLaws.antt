@@ -1,5 +1,8 @@
 -- Laws of a run in lent words: what its test says, and the words that a call leaves.
-use Prim.Native.Nat.{ℕ, ◌+◌, ◌*◌, ◌<◌}
+use Rattle.graph_tables.specs.Answers.{Answer}
+use Rattle.graph_tables.specs.Words.{variable_count, clock_count}
+use Rattle.std.specs.Prelude.{Ok, Err, ⊤}
+use Prim.Native.Nat.{ℕ, ◌+◌, ◌*◌, ◌<◌, ◌≤◌}
 use native.Mathlib.Omega.{arith}
 use lib.Seq.{get_or-take, get_or-drop}
 use mathlib.Core.Path.{◌≡◌, refl, sym, ap, ◌∙◌, subst}
@@ -17,13 +20,12 @@ use Rattle.graph_tables.specs.RunWords.{RunWords, run_words, places_in, vars_in,
 use Rattle.program_graph.proofs.WordLaws.{vars_length}
 use Rattle.graph_tables.specs.Sound.{Sound}
 use Rattle.graph_tables.specs.Formed.{well_formed}
-use Rattle.graph_tables.specs.declared.answers.Done.{Done}
 use Rattle.graph_tables.specs.declared.handed.Message.{Message}
 use Rattle.graph_tables.proofs.SoundLaws.{sound}
 use Rattle.program_graph.specs.declared.record.ProgramGraphRun.{ProgramGraphRun}
-use Rattle.program_graph.specs.Facts.{Ok}
-use Rattle.program_graph.specs.Inner.{run_at, RunOf, Leaves, DidStep, DidWait, DidReceive, DidSend}
-use Rattle.program_graph.specs.declared.inner.messages.Said.{Said}
+use Rattle.program_graph.specs.Facts.{Accepted}
+use Rattle.program_graph.specs.Outcomes.{accepts, values_said}
+use Rattle.program_graph.specs.Inner.{run_at, RunOf, Leaves, DidCall, DidSend}
 use Rattle.program_graph.specs.Running.{fits_table, step_of, transition_of, waited_of, wait_of}
 use Rattle.program_graph.specs.Messaging.{sent_of, send_of, received_of, receive_of}
 use Rattle.program_graph.proofs.RunTheorems.{transition_refused, wait_refused, send_refused, receive_refused}
@@ -64,6 +66,12 @@ module _ (t r : List ℕ) (fit : run_fits t r ≡ true) where
   unfolding run_fits
   words = eqb-true (length r) run_words (and_first _ _ (and_rest _ _ fit))
 
+  pub few_variables : variable_count t ≤ variable_room
+  few_variables = table_sound.counts.variables
+
+  pub few_clocks : clock_count t ≤ clock_room
+  few_clocks = table_sound.counts.clocks
+
   pub run_of : RunOf t r
   unfolding run_fits
   run_of = (fits_kept t table_sound r words (and_rest _ _ (and_rest _ _ fit))).run
@@ -74,10 +82,10 @@ module _ (t r : List ℕ) (fit : run_fits t r ≡ true) where
   fits_table_lem = and_both formed run_of.formed
 
   -- a call leaves the words of its run; a refused one leaves every word
-  pub left : (run : ProgramGraphRun) (after : List ℕ) → Leaves t r run after → (answer : Done) → ((Ok answer → ⊥) → run ≡ run_at r)
+  pub left : (run : ProgramGraphRun) (after : List ℕ) → Leaves t r run after → (answer : Answer ⊤) → ((Accepted answer → ⊥) → run ≡ run_at r)
       → after ≡ left_by answer r (words_of t r run)
-  left run after l Done.Accepted back = leaves_words table_sound l
-  left run after l (Done.Refused n) back =
+  left run after l (Ok _) back = leaves_words table_sound l
+  left run after l (Err n) back =
       leaves_words table_sound l ∙ ap (words_of t r) (back not_ok) ∙ words_back table_sound run_of
 
   -- ---- each call that changes a run, where it fits: the public call goes as the one behind its test
@@ -85,45 +93,45 @@ module _ (t r : List ℕ) (fit : run_fits t r ≡ true) where
   unfolding transition_of
   by_step a posts word = passed _ fits_table_lem refl
 
-  pub transition_left : (a : ℕ) (posts : List ℕ) (word : ℕ) (d : Done) (after : List ℕ)
-      → DidStep t r d after (step_of t (run_at r) a posts word)
+  pub transition_left : (a : ℕ) (posts : List ℕ) (word : ℕ) (d : Answer ⊤) (after : List ℕ)
+      → DidCall t r d after (step_of t (run_at r) a posts word)
       → (d ≡ (transition_of t (run_at r) a posts word).answer)
       × (after ≡ left_by (transition_of t (run_at r) a posts word).answer r (words_of t r (transition_of t (run_at r) a posts word).run))
   transition_left a posts word d after did =
-      let e : DidStep t r d after (transition_of t (run_at r) a posts word) = subst (DidStep t r d after) (by_step a posts word) did in
+      let e : DidCall t r d after (transition_of t (run_at r) a posts word) = subst (DidCall t r d after) (by_step a posts word) did in
       (e.0, left _ after e.1 _ (transition_refused t (run_at r) a posts word))
 
   by_wait : (delta : ℕ) → waited_of t (run_at r) delta ≡ wait_of t (run_at r) delta
   unfolding wait_of
   by_wait delta = passed _ fits_table_lem refl
 
-  pub wait_left : (delta : ℕ) (d : Done) (after : List ℕ) → DidWait t r d after (waited_of t (run_at r) delta)
+  pub wait_left : (delta : ℕ) (d : Answer ⊤) (after : List ℕ) → DidCall t r d after (waited_of t (run_at r) delta)
       → (d ≡ (wait_of t (run_at r) delta).answer)
       × (after ≡ left_by (wait_of t (run_at r) delta).answer r (words_of t r (wait_of t (run_at r) delta).run))
   wait_left delta d after did =
-      let e : DidWait t r d after (wait_of t (run_at r) delta) = subst (DidWait t r d after) (by_wait delta) did in
+      let e : DidCall t r d after (wait_of t (run_at r) delta) = subst (DidCall t r d after) (by_wait delta) did in
       (e.0, left _ after e.1 _ (wait_refused t (run_at r) delta))
 
   by_receive : (a : ℕ) (posts : List ℕ) (m : Message) → received_of t (run_at r) a posts m ≡ receive_of t (run_at r) a posts m
   unfolding receive_of
   by_receive a posts m = passed _ fits_table_lem refl
 
-  pub receive_left : (a : ℕ) (posts : List ℕ) (m : Message) (d : Done) (after : List ℕ)
-      → DidReceive t r d after (received_of t (run_at r) a posts m)
+  pub receive_left : (a : ℕ) (posts : List ℕ) (m : Message) (d : Answer ⊤) (after : List ℕ)
+      → DidCall t r d after (received_of t (run_at r) a posts m)
       → (d ≡ (receive_of t (run_at r) a posts m).answer)
       × (after ≡ left_by (receive_of t (run_at r) a posts m).answer r (words_of t r (receive_of t (run_at r) a posts m).run))
   receive_left a posts m d after did =
-      let e : DidReceive t r d after (receive_of t (run_at r) a posts m) = subst (DidReceive t r d after) (by_receive a posts m) did in
+      let e : DidCall t r d after (receive_of t (run_at r) a posts m) = subst (DidCall t r d after) (by_receive a posts m) did in
       (e.0, left _ after e.1 _ (receive_refused t (run_at r) a posts m))
 
   by_send : (a : ℕ) (posts : List ℕ) (word : ℕ) → sent_of t (run_at r) a posts word ≡ send_of t (run_at r) a posts word
   unfolding send_of
   by_send a posts word = passed _ fits_table_lem refl
 
-  pub send_left : (a : ℕ) (posts : List ℕ) (word : ℕ) (said : Said) (after : List ℕ)
+  pub send_left : (a : ℕ) (posts : List ℕ) (word : ℕ) (said : Answer Message) (after : List ℕ)
       → DidSend t r said after (sent_of t (run_at r) a posts word)
-      → (said.answer ≡ (send_of t (run_at r) a posts word).answer)
-      × (said.message ≡ (send_of t (run_at r) a posts word).message)
+      → (accepts said ≡ (send_of t (run_at r) a posts word).answer)
+      × (values_said said ≡ (send_of t (run_at r) a posts word).message)
       × (after ≡ left_by (send_of t (run_at r) a posts word).answer r (words_of t r (send_of t (run_at r) a posts word).run))
   send_left a posts word said after did =
       let e : DidSend t r said after (send_of t (run_at r) a posts word) = subst (DidSend t r said after) (by_send a posts word) did in

@@ -1,8 +1,7 @@
 -- What a call leaves: its number, the table, run or state that it may change, and the lent result.
-use Rattle.std.specs.Prelude.{ℕ, ◌≡◌, Bool, true, List, [], leb, length}
+use Rattle.std.specs.Prelude.{ℕ, ◌≡◌, Bool, true, List, [], leb, length, ⊤}
+use Rattle.graph_tables.specs.Answers.{Answer}
 use Rattle.laws.specs.Ladder.{unless}
-use Rattle.graph_tables.specs.declared.answers.Placed.{Placed}
-use Rattle.graph_tables.specs.declared.answers.Done.{Done}
 use Rattle.graph_builder.specs.Building.{Outcome}
 use Rattle.c_words.specs.Told.{Told, put, number_words, placed_told, done_told}
 
@@ -32,10 +31,10 @@ answering n known m out a after =
     unless (leb n (length out)) (nothing short m out) (unless known (nothing malformed m out) (telling a after out))
 
 -- ---- by what is lent: a table and a result; a table alone; a result alone
-abbrev pub placing : Bool → List ℕ → List ℕ → Outcome Placed → Given
+abbrev pub placing : Bool → List ℕ → List ℕ → Outcome (Answer ℕ) → Given
 placing known t out o = answering number_words known t out (placed_told o.answer) o.table
 
-abbrev pub doing : Bool → List ℕ → Outcome Done → Given
+abbrev pub doing : Bool → List ℕ → Outcome (Answer ⊤) → Given
 doing known t o = answering 0 known t [] (done_told o.answer) o.table
 
 abbrev pub reading : ℕ → List ℕ → Told → Given

@@ -1,18 +1,17 @@
 -- A run in lent words: 32 unless it is one of the table's; then what the call on the run that the words stand for answers and leaves.
-use Rattle.std.specs.Prelude.{ℕ, Bool, false, List, [], ◌∷◌, eqb, length, get_or}
+use Rattle.std.specs.Prelude.{ℕ, Bool, false, List, [], ◌∷◌, eqb, length, get_or, Err, ⊤}
+use Rattle.graph_tables.specs.Answers.{Answer, admitted}
+use Rattle.graph_tables.specs.declared.answers.Entry.{Entry}
+use Rattle.grammar.specs.declared.values.Val.{Val}
+use Rattle.std.specs.declared.option.Option.{Option}
 use Rattle.laws.specs.Ladder.{unless}
 use Rattle.laws.specs.Below.{◌and◌}
 use Rattle.graph_tables.specs.RunWords.{run_words}
 use Rattle.graph_tables.specs.Formed.{well_formed}
 use Rattle.graph_tables.specs.Refusals.{refusal}
 use Rattle.graph_tables.specs.declared.handed.Message.{Message}
-use Rattle.graph_tables.specs.declared.answers.Done.{Done}
 use Rattle.run_steps.specs.Messages.{no_message}
 use Rattle.program_graph.specs.declared.record.ProgramGraphRun.{ProgramGraphRun}
-use Rattle.program_graph.specs.declared.answers.Held.{Held}
-use Rattle.program_graph.specs.declared.answers.Listed.{Listed}
-use Rattle.program_graph.specs.declared.answers.Value.{Value}
-use Rattle.program_graph.specs.declared.answers.Time.{Time}
 use Rattle.program_graph.specs.Fits.{run_words_fit}
 use Rattle.program_graph.specs.Inner.{run_at}
 use Rattle.program_graph.specs.FreshWords.{fresh_words}
@@ -20,29 +19,29 @@ use Rattle.program_graph.specs.Running.{transition_of, wait_of, can_wait_of, is_
 use Rattle.program_graph.specs.Messaging.{send_of, receive_of}
 use Rattle.program_graph.specs.Transitions.{possible_of, nosync_of}
 use Rattle.program_graph.specs.Written.{words_of}
-use Rattle.program_graph.specs.declared.answers.States.{States}
+use Rattle.program_graph.specs.Outcomes.{States}
 use Rattle.channel_system.specs.Steps.{left_by}
-use Rattle.c_words.specs.Told.{Told, saying, refusing, done_saying}
+use Rattle.c_words.specs.Told.{Told, answer_told, number_said, refusing, done_saying}
 
 unfoldable pub run_fits : List ℕ → List ℕ → Bool
 run_fits t r = well_formed t false and (eqb (length r) run_words and run_words_fit t r)
 
 -- ---- calls that change a run: the answer, and the words afterwards. A refusal leaves every word
 pub record Moved : Type 0 where
-  pub answer : Done
+  pub answer : Answer ⊤
   pub words : List ℕ
 
 abbrev pub bad_run : List ℕ → Moved
-bad_run r = record { answer = Done.Refused (refusal 32); words = r }
+bad_run r = record { answer = Err (refusal 32); words = r }
 
-unfoldable pub moved_as : List ℕ → List ℕ → Done → ProgramGraphRun → Moved
+unfoldable pub moved_as : List ℕ → List ℕ → Answer ⊤ → ProgramGraphRun → Moved
 moved_as t r d run = unless (run_fits t r) (bad_run r) (record { answer = d; words = left_by d r (words_of t r run) })
 
 -- a fresh run, over any words
 unfoldable pub new_run_at : List ℕ → List ℕ → Moved
 new_run_at t r =
     unless (well_formed t false) (bad_run r)
-    (unless (eqb (length r) run_words) (bad_run r) (record { answer = Done.Accepted; words = fresh_words t r }))
+    (unless (eqb (length r) run_words) (bad_run r) (record { answer = admitted; words = fresh_words t r }))
 
 abbrev pub transition_at : List ℕ → List ℕ → ℕ → List ℕ → ℕ → Moved
 transition_at t r a posts word = moved_as t r (transition_of t (run_at r) a posts word).answer (transition_of t (run_at r) a posts word).run
@@ -61,27 +60,26 @@ abbrev pub receive_at : List ℕ → List ℕ → ℕ → List ℕ → Message �
 receive_at t r a posts m = moved_as t r (receive_of t (run_at r) a posts m).answer (receive_of t (run_at r) a posts m).run
 
 -- ---- calls that read one
-unfoldable pub can_wait_at : List ℕ → List ℕ → ℕ → Held
-can_wait_at t r delta = unless (run_fits t r) (Held.Refused (refusal 32)) (can_wait_of t (run_at r) delta)
+unfoldable pub can_wait_at : List ℕ → List ℕ → ℕ → Answer Bool
+can_wait_at t r delta = unless (run_fits t r) (Err (refusal 32)) (can_wait_of t (run_at r) delta)
 
-unfoldable pub is_waiting_at : List ℕ → List ℕ → Held
-is_waiting_at t r = unless (run_fits t r) (Held.Refused (refusal 32)) (is_waiting_of t (run_at r))
+unfoldable pub is_waiting_at : List ℕ → List ℕ → Answer Bool
+is_waiting_at t r = unless (run_fits t r) (Err (refusal 32)) (is_waiting_of t (run_at r))
 
-unfoldable pub possible_at : List ℕ → List ℕ → ℕ → Listed
-possible_at t r k = unless (run_fits t r) (Listed.Refused (refusal 32)) (possible_of t (run_at r) k)
+unfoldable pub possible_at : List ℕ → List ℕ → ℕ → Answer (Option Entry)
+possible_at t r k = unless (run_fits t r) (Err (refusal 32)) (possible_of t (run_at r) k)
 
-unfoldable pub nosync_at : List ℕ → List ℕ → ℕ → Listed
-nosync_at t r k = unless (run_fits t r) (Listed.Refused (refusal 32)) (nosync_of t (run_at r) k)
+unfoldable pub nosync_at : List ℕ → List ℕ → ℕ → Answer (Option Entry)
+nosync_at t r k = unless (run_fits t r) (Err (refusal 32)) (nosync_of t (run_at r) k)
 
-unfoldable pub value_at : List ℕ → List ℕ → ℕ → Value
-value_at t r v = unless (run_fits t r) (Value.Refused (refusal 32)) (value_in t (run_at r) v)
+unfoldable pub value_at : List ℕ → List ℕ → ℕ → Answer Val
+value_at t r v = unless (run_fits t r) (Err (refusal 32)) (value_in t (run_at r) v)
 
-unfoldable pub time_at : List ℕ → List ℕ → ℕ → Time
-time_at t r c = unless (run_fits t r) (Time.Refused (refusal 32)) (time_of t (run_at r) c)
+unfoldable pub time_at : List ℕ → List ℕ → ℕ → Answer ℕ
+time_at t r c = unless (run_fits t r) (Err (refusal 32)) (time_of t (run_at r) c)
 
-abbrev pub time_told : Time → Told
-time_told (Time.Is n) = saying (n ∷ [])
-time_told (Time.Refused r) = refusing r
+abbrev pub time_told : Answer ℕ → Told
+time_told = answer_told number_said
 
 -- how many processes, then four places; those past the count say nothing
 abbrev pub states_told : States → Told

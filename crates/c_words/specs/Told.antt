@@ -1,5 +1,12 @@
 -- What each answer is in C: a number, 0 for ok, and the words that it tells. A refusal tells none, but for the graph of a wait's 9.
-use Rattle.std.specs.Prelude.{ℕ, ◌+◌, ◌≡◌, List, [], ◌∷◌, get_or, set}
+use Rattle.std.specs.Prelude.{ℕ, ◌+◌, ◌≡◌, List, [], ◌∷◌, get_or, set, Bool, Ok, Err, Some, None, ⊤}
+use Rattle.graph_tables.specs.Answers.{Answer}
+use Rattle.grammar.specs.declared.values.«Type».{«Type» as Kind}
+use Rattle.grammar.specs.declared.values.Val.{Val}
+use Rattle.system_tables.specs.declared.ids.PgId.{PgId}
+use Rattle.channel_system.specs.declared.answers.WaitError.{WaitError}
+use Rattle.std.specs.declared.result.Result.{Result}
+use Rattle.std.specs.declared.option.Option.{Option}
 use Rattle.grammar.specs.Values.{kind_word}
 use Rattle.grammar.specs.Slots.{kind_in, payload_in, truth_word}
 use Rattle.grammar.specs.Evaluation.{blank}
@@ -7,14 +14,7 @@ use Rattle.grammar.specs.declared.values.Slot.{Slot}
 use Rattle.graph_tables.specs.Refusals.{number_of}
 use Rattle.graph_tables.specs.declared.refusals.Refusal.{Refusal}
 use Rattle.graph_tables.specs.declared.handed.Message.{Message}
-use Rattle.graph_tables.specs.declared.answers.Done.{Done}
-use Rattle.graph_tables.specs.declared.answers.Placed.{Placed}
-use Rattle.graph_tables.specs.declared.answers.VarType.{VarType}
 use Rattle.graph_tables.specs.declared.answers.Entry.{Entry}
-use Rattle.program_graph.specs.declared.answers.Held.{Held}
-use Rattle.program_graph.specs.declared.answers.Value.{Value}
-use Rattle.program_graph.specs.declared.answers.Listed as Graph
-use Rattle.program_graph.specs.declared.answers.Listed.TheVariants as OnGraph
 use Rattle.system_tables.specs.Sizes.{bounded_sort, unbounded_sort, sink_sort}
 use Rattle.system_tables.specs.Words.{message_word}
 use Rattle.system_tables.specs.declared.ids.ChannelCapacity.{ChannelCapacity}
@@ -25,12 +25,7 @@ use Rattle.system_builder.specs.declared.handed.Kinds.{Kinds}
 use Rattle.system_builder.specs.Systems.{handed_kind}
 use Rattle.system_builder.specs.declared.answers.ChannelRead.{ChannelRead}
 use Rattle.channel_system.specs.declared.answers.Event.{Event}
-use Rattle.channel_system.specs.declared.answers.Stepped.{Stepped}
-use Rattle.channel_system.specs.declared.answers.Waited.{Waited}
-use Rattle.channel_system.specs.declared.answers.Listed.{Listed}
-use Rattle.channel_system.specs.declared.answers.Now.{Now}
-use Rattle.channel_system.specs.declared.answers.Length.{Length}
-use Rattle.channel_system.specs.declared.answers.Queued.{Queued}
+use Rattle.channel_system.specs.Steps.{Stepped, carrying}
 
 -- ---- sizes: how many words each result has
 abbrev pub number_words : ℕ
@@ -72,65 +67,81 @@ abbrev pub refusing : Refusal → Told
 refusing r = record { number = number_of r; words = [] }
 
 -- the words where a call accepts
-abbrev pub done_saying : Done → List ℕ → Told
-done_saying Done.Accepted ws = saying ws
-done_saying (Done.Refused r) ws = refusing r
+abbrev pub done_saying : Answer ⊤ → List ℕ → Told
+done_saying (Ok _) ws = saying ws
+done_saying (Err r) ws = refusing r
 
-abbrev pub done_told : Done → Told
+abbrev pub done_told : Answer ⊤ → Told
 done_told d = done_saying d []
 
--- the number of a new part
-abbrev pub placed_told : Placed → Told
-placed_told (Placed.At n) = saying (n ∷ [])
-placed_told (Placed.Refused r) = refusing r
+-- the words of its value where a call accepts
+abbrev pub answer_told : {A : Type 0} → (A → List ℕ) → Answer A → Told
+answer_told said (Ok x) = saying (said x)
+answer_told said (Err r) = refusing r
+
+-- the number of a new part, a time, a length
+abbrev pub number_said : ℕ → List ℕ
+number_said n = n ∷ []
+
+abbrev pub placed_told : Answer ℕ → Told
+placed_told = answer_told number_said
+
+abbrev pub now_told : Answer ℕ → Told
+now_told = answer_told number_said
+
+abbrev pub length_told : Answer ℕ → Told
+length_told = answer_told number_said
 
 -- a kind
-abbrev pub var_type_told : VarType → Told
-var_type_told (VarType.Known k) = saying (kind_word k ∷ [])
-var_type_told (VarType.Refused r) = refusing r
+abbrev pub type_said : Kind → List ℕ
+type_said k = kind_word k ∷ []
+
+abbrev pub var_type_told : Answer Kind → Told
+var_type_told = answer_told type_said
 
 -- yes or no
-abbrev pub held_told : Held → Told
-held_told (Held.Is b) = saying (truth_word b ∷ [])
-held_told (Held.Refused r) = refusing r
+abbrev pub truth_said : Bool → List ℕ
+truth_said b = truth_word b ∷ []
 
--- a time, and a length
-abbrev pub now_told : Now → Told
-now_told (Now.Is n) = saying (n ∷ [])
-now_told (Now.Refused r) = refusing r
-
-abbrev pub length_told : Length → Told
-length_told (Length.Is n) = saying (n ∷ [])
-length_told (Length.Refused r) = refusing r
+abbrev pub held_told : Answer Bool → Told
+held_told = answer_told truth_said
 
 -- a value
-abbrev pub value_told : Value → Told
-value_told (Value.Is x) = saying (kind_in x ∷ payload_in x ∷ [])
-value_told (Value.Refused r) = refusing r
+abbrev pub value_said : Val → List ℕ
+value_said x = kind_in x ∷ payload_in x ∷ []
+
+abbrev pub value_told : Answer Val → Told
+value_told = answer_told value_said
 
 -- a value that is stored: 1, its kind and its payload; past the end zeros
-abbrev pub queued_told : Queued → Told
-queued_told (Queued.At x) = saying (1 ∷ kind_in x ∷ payload_in x ∷ [])
-queued_told Queued.End = saying (0 ∷ 0 ∷ 0 ∷ [])
-queued_told (Queued.Refused r) = refusing r
+abbrev pub queued_said : Option Val → List ℕ
+queued_said (Some x) = 1 ∷ kind_in x ∷ payload_in x ∷ []
+queued_said None = 0 ∷ 0 ∷ 0 ∷ []
+
+abbrev pub queued_told : Answer (Option Val) → Told
+queued_told = answer_told queued_said
 
 -- an entry of a graph's listing: 1, action, process, post; past the end zeros
-abbrev pub entry_told : Graph.Listed → Told
-entry_told (OnGraph.At e) = saying (1 ∷ e.action.0 ∷ e.process ∷ e.post ∷ [])
-entry_told OnGraph.End = saying (0 ∷ 0 ∷ 0 ∷ 0 ∷ [])
-entry_told (OnGraph.Refused r) = refusing r
+abbrev pub entry_said : Option Entry → List ℕ
+entry_said (Some e) = 1 ∷ e.action.0 ∷ e.process ∷ e.post ∷ []
+entry_said None = 0 ∷ 0 ∷ 0 ∷ 0 ∷ []
+
+abbrev pub entry_told : Answer (Option Entry) → Told
+entry_told = answer_told entry_said
 
 -- of a system's listing: 1, graph, action, process, post
-abbrev pub graph_entry_told : Listed → Told
-graph_entry_told (Listed.At g e) = saying (1 ∷ g.0 ∷ e.action.0 ∷ e.process ∷ e.post ∷ [])
-graph_entry_told Listed.End = saying (0 ∷ 0 ∷ 0 ∷ 0 ∷ 0 ∷ [])
-graph_entry_told (Listed.Refused r) = refusing r
+abbrev pub graph_entry_said : Option (PgId × Entry) → List ℕ
+graph_entry_said (Some (g, e)) = 1 ∷ g.0 ∷ e.action.0 ∷ e.process ∷ e.post ∷ []
+graph_entry_said None = 0 ∷ 0 ∷ 0 ∷ 0 ∷ 0 ∷ []
+
+abbrev pub graph_entry_told : Answer (Option (PgId × Entry)) → Told
+graph_entry_told = answer_told graph_entry_said
 
 -- a wait: with 9 the graph that stands against it, else no word
-abbrev pub waited_told : Waited → Told
-waited_told Waited.Accepted = saying []
-waited_told (Waited.Invariant g) = record { number = number_of Refusal.Invariant; words = g.0 ∷ [] }
-waited_told (Waited.Refused r) = refusing r
+abbrev pub waited_told : Result ⊤ WaitError → Told
+waited_told (Ok _) = saying []
+waited_told (Err (WaitError.Invariant g)) = record { number = number_of Refusal.Invariant; words = g.0 ∷ [] }
+waited_told (Err (WaitError.Refused r)) = refusing r
 
 -- a message: how many values, then the kind and the payload of each of its four places
 abbrev pub kind_on : Message → ℕ → ℕ
@@ -155,8 +166,11 @@ channel_said (On m q) = q.0
 abbrev pub event_said : Event → List ℕ
 event_said e = e.pg_id.0 ∷ kind_said e.on ∷ channel_said e.on ∷ message_said e.values
 
+abbrev pub event_told : Answer Event → Told
+event_told = answer_told event_said
+
 abbrev pub stepped_told : Stepped → Told
-stepped_told s = done_saying s.answer (event_said s.event)
+stepped_told s = event_told (carrying s.answer s.event)
 
 -- a channel: how many values a message has, the kinds of four, the sort of its capacity, the bound
 abbrev pub sort_said : ChannelCapacity → ℕ
@@ -183,19 +197,6 @@ put_from i (w ∷ ws) out = put_from (i + 1) ws (set out i w)
 
 abbrev pub put : List ℕ → List ℕ → List ℕ
 put ws out = put_from 0 ws out
-
--- the three numbers of an entry, a value and a message, from place i on
-abbrev pub entry_put : ℕ → Entry → List ℕ → List ℕ
-entry_put i e out = set (set (set out i e.action.0) (i + 1) e.process) (i + 2) e.post
-
-abbrev pub slot_put : ℕ → Slot → List ℕ → List ℕ
-slot_put i s out = set (set out i (kind_in s.value)) (i + 1) (payload_in s.value)
-
-abbrev pub message_put : ℕ → Message → List ℕ → List ℕ
-message_put i m out =
-    slot_put (i + 7) (get_or m.values 3 blank)
-    (slot_put (i + 5) (get_or m.values 2 blank)
-    (slot_put (i + 3) (get_or m.values 1 blank) (slot_put (i + 1) (get_or m.values 0 blank) (set out i m.count))))
 
 -- a number and the slice are those of an answer
 abbrev pub Says : ℕ → List ℕ → List ℕ → Told → Type 0

@@ -5,8 +5,9 @@
 mod answers;
 mod expressions;
 mod lines;
-mod table;
+mod tables;
 
+use program_graph::inner::fresh;
 use std::io;
 
 fn main(rt: HostRuntime) -> io::Result<()> {
@@ -16,12 +17,12 @@ fn main(rt: HostRuntime) -> io::Result<()> {
     let mut guards = [0u64; explainer::layout::ALL_GUARDS];
     let mut limits = [0u64; explainer::layout::ALL_LIMITS];
     let mut line = [0u8; text::lines::ROOM];
-    let mut bytes = [0u8; text::lines::PIECE];
+    let mut run = fresh::no_run();
     lines::answer_all(
         &rt,
         &mut line,
-        &mut bytes,
         &mut t,
+        &mut run,
         &mut s,
         &mut state,
         &mut guards,

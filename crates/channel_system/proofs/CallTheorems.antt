@@ -1,4 +1,8 @@
 -- What a step and a wait of a system change, and what they leave.
+use Rattle.graph_tables.specs.Answers.{Answer, admitted}
+use Rattle.channel_system.specs.declared.answers.WaitError.{WaitError}
+use Rattle.std.specs.declared.result.Result.{Result}
+use Rattle.std.specs.Prelude.{Ok, Err, ⊤}
 use Prim.Native.Nat.{ℕ, suc, ◌<◌, ◌≤◌}
 use mathlib.Core.Path.{◌≡◌, refl, sym, ap, ◌∙◌}
 use mathlib.Core.Bool.{Bool, true, false}
@@ -11,15 +15,15 @@ use borrow.Author.Tests.{eq-eqb, lt-ltb}
 use Rattle.laws.proofs.Ladder.{passed, stopped, rung}
 use Rattle.laws.proofs.Tests.{never}
 use Rattle.graph_tables.specs.Refusals.{refusal}
-use Rattle.graph_tables.specs.declared.answers.Done.{Done}
 use Rattle.graph_tables.specs.declared.refusals.Refusal.{Refusal}
 use Rattle.graph_checks.specs.Checks.{refused_by}
 use Rattle.run_steps.specs.Messages.{no_message}
 use Rattle.program_graph.specs.declared.record.ProgramGraphRun.{ProgramGraphRun}
-use Rattle.program_graph.specs.declared.answers.Received.{Received}
-use Rattle.program_graph.specs.Facts.{Ok}
+use Rattle.program_graph.specs.Running.{refused}
+use Rattle.program_graph.specs.Outcomes.{RunOutcome}
+use Rattle.program_graph.specs.Facts.{Accepted}
 use Rattle.program_graph.specs.Running.{ready_still}
-use Rattle.program_graph.specs.Messaging.{refused_receive, received_of}
+use Rattle.program_graph.specs.Messaging.{received_of}
 use Rattle.program_graph.proofs.AnswerLaws.{accepted_ok, not_ok}
 use Rattle.program_graph.proofs.RunReady.{ready_exactly}
 use Rattle.program_graph.proofs.SpokenLaws.{receive_is}
@@ -43,7 +47,6 @@ use Rattle.channel_system.specs.Waits.{later_state, Passed, refused_wait, passed
 use Rattle.channel_system.specs.Facts.{Speaks}
 use Rattle.channel_system.specs.Told.{waited_number, AskedRightly, GuardFalse, run_by, event_by}
 use Rattle.channel_system.specs.declared.answers.Event.{Event}
-use Rattle.channel_system.specs.declared.answers.Waited.{Waited}
 use Rattle.channel_system.proofs.FittingLaws.{fits_table_lem, fits_state}
 use Rattle.channel_system.proofs.SpokenLaws.{spoken_some}
 use Rattle.channel_system.proofs.StepCases.{sent_on, SendFound, InEach, step_cases}
@@ -57,25 +60,25 @@ public_step : (P : Moved → Type 0) (t s : List ℕ) (g o a : ℕ) (posts : Lis
 unfolding transition_of
 public_step P t s g o a posts word bad good = rung P _ (refused_step 32 g s) _ bad good
 
-public_wait : (P : Passed → Type 0) (t s : List ℕ) (delta : ℕ) → P (refused_wait (Waited.Refused (refusal 32)) s)
+public_wait : (P : Passed → Type 0) (t s : List ℕ) (delta : ℕ) → P (refused_wait (Err (WaitError.Refused (refusal 32))) s)
     → ((fits : system_fits t s ≡ true) → P (passed_of t s delta)) → P (wait_of t s delta)
 unfolding wait_of
-public_wait P t s delta bad good = rung P _ (refused_wait (Waited.Refused (refusal 32)) s) _ bad good
+public_wait P t s delta bad good = rung P _ (refused_wait (Err (WaitError.Refused (refusal 32))) s) _ bad good
 
 -- ---- a step
 module _ (t s : List ℕ) (g o a : ℕ) (posts : List ℕ) (word : ℕ) where
   -- a step by its cases, where refusals leave the state
-  cases : (P : Moved → Type 0) → ((r : Refusal) → P (record { told = record { answer = Done.Refused r; event = no_event g }; state = s }))
+  cases : (P : Moved → Type 0) → ((r : Refusal) → P (record { told = record { answer = Err r; event = no_event g }; state = s }))
       → ((sound : SystemSound t) → StateSound t s → InEach t s g a posts word P) → P (transition_of t s g o a posts word)
   cases P bad good =
       public_step P t s g o a posts word (bad (refusal 32))
       (λ fits. step_cases t s g a posts word P (good (fits_table_lem t s fits) (fits_state t s fits)) (fits_table_lem t s fits) o)
 
   -- A refused step leaves every word of the state, and has no event.
-  pub step_refused : (Ok (transition_of t s g o a posts word).told.answer → ⊥)
+  pub step_refused : (Accepted (transition_of t s g o a posts word).told.answer → ⊥)
       → ((transition_of t s g o a posts word).state ≡ s) × ((transition_of t s g o a posts word).told.event ≡ no_event g)
   step_refused =
-      cases (λ (m : Moved). (Ok m.told.answer → ⊥) → (m.state ≡ s) × (m.told.event ≡ no_event g)) (λ r n. (refl, refl))
+      cases (λ (m : Moved). (Accepted m.told.answer → ⊥) → (m.state ≡ s) × (m.told.event ≡ no_event g)) (λ r n. (refl, refl))
       (λ sound h. record {
         refusal = λ r n k. (refl, refl);
         plain = λ f n. absurd (n accepted_ok);
@@ -91,12 +94,12 @@ module _ (t s : List ℕ) (g o a : ℕ) (posts : List ℕ) (word : ℕ) where
   event c = event_by t s g a posts word c
 
   -- An accepted step leaves in graph g the run that the graph's own call gives, and returns its event.
-  pub step_accepted : Ok (transition_of t s g o a posts word).told.answer
+  pub step_accepted : Accepted (transition_of t s g o a posts word).told.answer
       → (run_of (transition_of t s g o a posts word).state g ≡ run_by t s g a posts word (spoken_by t g a))
       × ((transition_of t s g o a posts word).told.event ≡ event_by t s g a posts word (spoken_by t g a))
   step_accepted =
       cases
-      (λ (m : Moved). Ok m.told.answer → (run_of m.state g ≡ own (spoken_by t g a)) × (m.told.event ≡ event (spoken_by t g a)))
+      (λ (m : Moved). Accepted m.told.answer → (run_of m.state g ≡ own (spoken_by t g a)) × (m.told.event ≡ event (spoken_by t g a)))
       (λ r. not_ok)
       (λ sound h. record {
         refusal = λ r n. not_ok;
@@ -183,13 +186,13 @@ module _ (t s : List ℕ) (g o a : ℕ) (posts : List ℕ) (word : ℕ) where
 -- ---- a wait
 module _ (t s : List ℕ) (delta : ℕ) where
   -- a wait by its cases
-  waits : (P : Passed → Type 0) → ((w : Waited) → (waited_number w ≡ 0 → ⊥) → P (record { answer = w; state = s }))
-      → (SystemSound t → StateSound t s → WaitFound t s delta → P (record { answer = Waited.Accepted; state = later_state t s delta }))
+  waits : (P : Passed → Type 0) → ((w : Result ⊤ WaitError) → (waited_number w ≡ 0 → ⊥) → P (record { answer = w; state = s }))
+      → (SystemSound t → StateSound t s → WaitFound t s delta → P (record { answer = Ok tt; state = later_state t s delta }))
       → P (wait_of t s delta)
   waits P bad good =
-      public_wait P t s delta (bad (Waited.Refused (refusal 32)) (λ e. omega arith))
-      (λ fits. wait_cases P t s delta (bad (Waited.Refused (refusal 26)) (λ e. omega arith))
-      (λ g. bad (Waited.Invariant (record { 0 = g })) (λ e. omega arith))
+      public_wait P t s delta (bad (Err (WaitError.Refused (refusal 32))) (λ e. omega arith))
+      (λ fits. wait_cases P t s delta (bad (Err (WaitError.Refused (refusal 26))) (λ e. omega arith))
+      (λ g. bad (Err (WaitError.Invariant (record { 0 = g }))) (λ e. omega arith))
       (good (fits_table_lem t s fits) (fits_state t s fits)))
 
   -- A refused wait leaves every word of the state.
@@ -230,7 +233,7 @@ module _ (t s : List ℕ) (fits : system_fits t s ≡ true) (g a q : ℕ) (posts
   abbrev run : ProgramGraphRun
   run = run_of s g
 
-  abbrev heard : Received
+  abbrev heard : RunOutcome
   heard = received_of G run a (locations_of posts) (oldest_in t s q)
 
   -- no process would move
@@ -257,14 +260,14 @@ module _ (t s : List ℕ) (fits : system_fits t s ≡ true) (g a q : ℕ) (posts
   unsatisfied =
       let says = message_says (sound.communication g a asked.graph speaks.action) Receive (record { 0 = q }) speaks.word in
       let each : eqb (length (locations_of posts)) run.processes ≡ true = eq-eqb _ _ (locations_length posts ∙ asked.one_each) in
-      ap (λ (r : Received). r.answer)
+      ap (λ (r : RunOutcome). r.answer)
       (receive_is (sound.graph g asked.graph) run a (locations_of posts) speaks.action (oldest_in t s q) says.1.0
-      ∙ sym (passed (refused_receive 7 run) each (stopped (refused_receive 8 run) _ not_ready)))
+      ∙ sym (passed (refused 7 run) each (stopped (refused 8 run) _ not_ready)))
 
   spoken : spoken_by t g a ≡ On Receive (record { 0 = q })
   spoken = sym (spoken_some t g a speaks.action) ∙ speaks.word
 
-  ready : channel_answer t s q Receive ≡ Done.Accepted
+  ready : channel_answer t s q Receive ≡ admitted
   unfolding receive_test
   ready = sym (passed (refused_by 21) (lt-ltb _ _ stored) refl)
 
@@ -277,8 +280,8 @@ module _ (t s : List ℕ) (fits : system_fits t s ≡ true) (g a q : ℕ) (posts
       (passed (refused_step 19 g s) asked.own
       (sym
       (ap (step_as t s g a (locations_of posts) word) spoken
-      ∙ ap (λ (d : Done). open_if d g s (receive_step t s g a (locations_of posts) q)) ready
-      ∙ ap (λ (d : Done). told_if d g s (event_of g Receive q (oldest_in t s q)) (taken_from t (ran_to t s g heard.run) q))
+      ∙ ap (λ (d : Answer ⊤). open_if d g s (receive_step t s g a (locations_of posts) q)) ready
+      ∙ ap (λ (d : Answer ⊤). told_if d g s (event_of g Receive q (oldest_in t s q)) (taken_from t (ran_to t s g heard.run) q))
       unsatisfied))))))
 
   -- Something is in the queue, and a receive is asked for while its guard is false: the answer is 8 (UnsatisfiedGuard), there is no

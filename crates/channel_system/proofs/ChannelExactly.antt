@@ -1,4 +1,5 @@
 -- When a step of a system answers each of the numbers that come before its graph is asked: exactly when.
+use Rattle.std.specs.Prelude.{Ok, Err, ⊤}
 use Prim.Native.Nat.{ℕ, ◌/◌, ◌<◌, ◌≤◌}
 use mathlib.Core.Path.{◌≡◌, refl, sym, ap, subst, ◌∙◌}
 use mathlib.Core.Bool.{Bool, true, false, cond}
@@ -14,10 +15,9 @@ use Rattle.laws.proofs.Ladder.{passed, rung}
 use Rattle.laws.proofs.BelowLaws.{all_at, all_from, all_fails}
 use Rattle.graph_tables.specs.Sizes.{word32}
 use Rattle.graph_tables.specs.Words.{action_count}
-use Rattle.graph_tables.specs.Answers.{done_number}
-use Rattle.graph_tables.specs.declared.answers.Done.{Done}
+use Rattle.graph_tables.specs.Answers.{Answer, answer_number}
 use Rattle.graph_checks.specs.Checks.{refused_by}
-use Rattle.program_graph.specs.Facts.{Ok, Not}
+use Rattle.program_graph.specs.Facts.{Accepted, Not}
 use Rattle.program_graph.proofs.RunLaws.{chosen}
 use Rattle.program_graph.proofs.AnswerLaws.{accepted_ok, not_ok}
 use Rattle.program_graph.proofs.RunReady.{through}
@@ -126,11 +126,11 @@ module _ (stored width : ℕ) (c : ChannelCapacity) where
   test_24 ProbeFullQueue = (λ a. (inr refl, (full_24 stored c).0 a), λ p. (full_24 stored c).1 p.1)
 
 -- it answers ok, or with a number of its own
-abbrev pub OfChannel : Done → Type 0
-OfChannel d = Ok d ⊎ ByChannel (done_number d)
+abbrev pub OfChannel : Answer ⊤ → Type 0
+OfChannel d = Accepted d ⊎ ByChannel (answer_number d)
 
 -- a rung of a channel's ladder
-one_rung : (b : Bool) (n : ℕ) (rest : Done) → ByChannel (done_number (refused_by n)) → OfChannel rest
+one_rung : (b : Bool) (n : ℕ) (rest : Answer ⊤) → ByChannel (answer_number (refused_by n)) → OfChannel rest
     → OfChannel (unless b (refused_by n) rest)
 one_rung b n rest own h = rung OfChannel b (refused_by n) rest (inr own) (λ e. h)
 
@@ -161,27 +161,27 @@ module _ (stored width : ℕ) where
       one_rung _ 24 _ (record { low = omega arith; high = omega arith; other = λ e. omega arith }) (reached_so c)
 
 -- The channel's test passes exactly when the channel takes the message.
-pub channel_takes : (t s : List ℕ) (q : ℕ) (m : Message) → Ok (channel_answer t s q m) ↔ ChannelTakes t s q m
+pub channel_takes : (t s : List ℕ) (q : ℕ) (m : Message) → Accepted (channel_answer t s q m) ↔ ChannelTakes t s q m
 channel_takes t s q m =
-    subst (λ (k : ℕ). Ok (channel_answer t s q m) ↔ Takes m k (width_of t q) (capacity_of t q)) (sym (queue_length (queue_part s q)))
+    subst (λ (k : ℕ). Accepted (channel_answer t s q m) ↔ Takes m k (width_of t q) (capacity_of t q)) (sym (queue_length (queue_part s q)))
     (test_passes (stored_of (queue_part s q)) (width_of t q) m (capacity_of t q))
 
 -- ---- a channel that is asked first
 -- a number that neither is ok nor the graph's is the channel's
-opened : (n : ℕ) (d : Done) (g : ℕ) (s : List ℕ) (rest : Moved) → (n ≡ 0 → ⊥) → Not n (answer_of rest)
+opened : (n : ℕ) (d : Answer ⊤) (g : ℕ) (s : List ℕ) (rest : Moved) → (n ≡ 0 → ⊥) → Not n (answer_of rest)
     → Answers n (answer_of (open_if d g s rest)) ↔ Answers n d
-opened n Done.Accepted g s rest some f = (λ e. absurd (f e), λ e. absurd (some (sym e)))
-opened n (Done.Refused r) g s rest some f = (λ e. e, λ e. e)
+opened n (Ok _) g s rest some f = (λ e. absurd (f e), λ e. absurd (some (sym e)))
+opened n (Err r) g s rest some f = (λ e. e, λ e. e)
 
-not_graph : {n : ℕ} → ByChannel n → (d : Done) → OfGraph d → Not n d
+not_graph : {n : ℕ} → ByChannel n → (d : Answer ⊤) → OfGraph d → Not n d
 not_graph b d h e =
     let low = b.low in
-    ⊎_elim (λ (l : done_number d ≤ 15). omega arith) (λ (f : done_number d ≡ 26). b.other (sym e ∙ f)) h
+    ⊎_elim (λ (l : answer_number d ≤ 15). omega arith) (λ (f : answer_number d ≡ 26). b.other (sym e ∙ f)) h
 
-closed : (d : Done) (g : ℕ) (s : List ℕ) (rest : Moved) → OfChannel d → OfGraph (answer_of rest)
-    → ByChannel (done_number (answer_of (open_if d g s rest))) ↔ (Ok d → ⊥)
-closed Done.Accepted g s rest own h = never_so (λ b. not_graph b (answer_of rest) h refl) (λ n. n accepted_ok)
-closed (Done.Refused r) g s rest own h = (λ b k. not_ok k, λ n. ⊎_elim (λ k. absurd (n k)) (λ b. b) own)
+closed : (d : Answer ⊤) (g : ℕ) (s : List ℕ) (rest : Moved) → OfChannel d → OfGraph (answer_of rest)
+    → ByChannel (answer_number (answer_of (open_if d g s rest))) ↔ (Accepted d → ⊥)
+closed (Ok _) g s rest own h = never_so (λ b. not_graph b (answer_of rest) h refl) (λ n. n accepted_ok)
+closed (Err r) g s rest own h = (λ b k. not_ok k, λ n. ⊎_elim (λ k. absurd (n k)) (λ b. b) own)
 
 -- ---- what a step is once graph, action and posts are its own
 own_post_lem : (posts : List ℕ) (g i : ℕ) → (own_post posts g i ≡ true) ↔ (get_or posts i 0 / word32 ≡ g)
@@ -232,14 +232,14 @@ module _ (t s : List ℕ) (g o a : ℕ) (posts : List ℕ) (word : ℕ) where
   abbrev Inside : ℕ → Type 0
   Inside n = (n ≤ 15) ⊎ ((20 ≤ n) × (n ≤ 27))
 
-  of_graph_inside : (d : Done) → OfGraph d → Inside (done_number d)
-  of_graph_inside d h = ⊎_elim (λ l. inl l) (λ (e : done_number d ≡ 26). inr (omega arith, omega arith)) h
+  of_graph_inside : (d : Answer ⊤) → OfGraph d → Inside (answer_number d)
+  of_graph_inside d h = ⊎_elim (λ l. inl l) (λ (e : answer_number d ≡ 26). inr (omega arith, omega arith)) h
 
-  opened_inside : (d : Done) (rest : Moved) → OfChannel d → OfGraph (answer_of rest) → Inside (done_number (answer_of (open_if d g s rest)))
-  opened_inside Done.Accepted rest own h = of_graph_inside (answer_of rest) h
-  opened_inside (Done.Refused r) rest own h = ⊎_elim (λ k. not_ok k) (λ b. inr (b.low, b.high)) own
+  opened_inside : (d : Answer ⊤) (rest : Moved) → OfChannel d → OfGraph (answer_of rest) → Inside (answer_number (answer_of (open_if d g s rest)))
+  opened_inside (Ok _) rest own h = of_graph_inside (answer_of rest) h
+  opened_inside (Err r) rest own h = ⊎_elim (λ k. not_ok k) (λ b. inr (b.low, b.high)) own
 
-  inside : (ps : List ℕ) (c : Communication) → Inside (done_number (answer_of (step_as t s g a ps word c)))
+  inside : (ps : List ℕ) (c : Communication) → Inside (answer_number (answer_of (step_as t s g a ps word c)))
   inside ps Plain = of_graph_inside (answer_of (plain_step t s g a ps word)) (plain_answers ps)
   inside ps (On m q) =
       opened_inside (channel_answer t s q.0 m) (message_step t s g a ps word q.0 m)
@@ -352,27 +352,27 @@ module _ (t s : List ℕ) (g o a : ℕ) (posts : List ℕ) (word : ℕ) where
         through (by_channel 23 (record { low = omega arith; high = omega arith; other = λ e. omega arith }))
         (test_23 (stored_in s q) (width_of t q) (capacity_of t q) m)
 
-    by_test : ByChannel (done_number (answer_of (moved_of t s g o a posts word))) ↔ (Ok (channel_answer t s q m) → ⊥)
+    by_test : ByChannel (answer_number (answer_of (moved_of t s g o a posts word))) ↔ (Accepted (channel_answer t s q m) → ⊥)
     by_test =
-        subst (λ (x : Moved). ByChannel (done_number (answer_of x)) ↔ (Ok (channel_answer t s q m) → ⊥)) (sym (message_moves m q asked speaks))
+        subst (λ (x : Moved). ByChannel (answer_number (answer_of x)) ↔ (Accepted (channel_answer t s q m) → ⊥)) (sym (message_moves m q asked speaks))
         (closed (channel_answer t s q m) g s (message_step t s g a (locations_of posts) word q m)
         (test_answers (stored_of (queue_part s q)) (width_of t q) m (capacity_of t q))
         (message_answers (locations_of posts) q m))
 
     -- The answer is one of these exactly when the channel does not take the message.
-    pub refused_by_channel : ByChannel (done_number (answer_of (moved_of t s g o a posts word))) ↔ (ChannelTakes t s q m → ⊥)
+    pub refused_by_channel : ByChannel (answer_number (answer_of (moved_of t s g o a posts word))) ↔ (ChannelTakes t s q m → ⊥)
     refused_by_channel = through by_test (not_either (channel_takes t s q m))
 
-  plain_not : ByChannel (done_number (answer_of (plain_step t s g a (locations_of posts) word))) → ⊥
+  plain_not : ByChannel (answer_number (answer_of (plain_step t s g a (locations_of posts) word))) → ⊥
   plain_not b = not_graph b (answer_of (plain_step t s g a (locations_of posts) word)) (plain_answers (locations_of posts)) refl
 
   -- No other step answers one of these.
-  pub channel_asked : ByChannel (done_number (answer_of (moved_of t s g o a posts word)))
+  pub channel_asked : ByChannel (answer_number (answer_of (moved_of t s g o a posts word)))
       → Asked t g o posts × ((m : Message) × (q : ℕ) × Speaks t g a m q)
   unfolding moved_of
   channel_asked =
       let P : Moved → Type 0
-      = λ x. ByChannel (done_number (answer_of x)) → Asked t g o posts × ((m : Message) × (q : ℕ) × Speaks t g a m q) in
+      = λ x. ByChannel (answer_number (answer_of x)) → Asked t g o posts × ((m : Message) × (q : ℕ) × Speaks t g a m q) in
       rung P (ltb g (graph_count t)) (refused_step 17 g s) _ (λ b. let low = b.low in absurd (omega arith))
       (λ k. rung P (eqb o g) (refused_step 18 g s) _ (λ b. let low = b.low in absurd (omega arith))
       (λ e. rung P (all_below (length posts) (own_post posts g)) (refused_step 19 g s) _ (λ b. let low = b.low in absurd (omega arith))
@@ -382,13 +382,13 @@ module _ (t s : List ℕ) (g o a : ℕ) (posts : List ℕ) (word : ℕ) where
       ))))
     where
       spoken : a < action_count (graph_part t g) → (c : Communication) → communication_of t g a ≡ c
-          → ByChannel (done_number (answer_of (step_as t s g a (locations_of posts) word c)))
+          → ByChannel (answer_number (answer_of (step_as t s g a (locations_of posts) word c)))
           → (m : Message) × (q : ℕ) × Speaks t g a m q
       spoken l Plain e b = absurd (plain_not b)
       spoken l (On m q) e b = (m, q.0, record { action = l; word = e })
 
       known : (b : Bool) → ltb a (action_count (graph_part t g)) ≡ b
-          → ByChannel (done_number (answer_of (step_as t s g a (locations_of posts) word (cond b (communication_of t g a) Plain))))
+          → ByChannel (answer_number (answer_of (step_as t s g a (locations_of posts) word (cond b (communication_of t g a) Plain))))
           → (m : Message) × (q : ℕ) × Speaks t g a m q
       known true e b = spoken (ltb-true _ _ e) (communication_of t g a) refl b
       known false e b = absurd (plain_not b)
@@ -402,7 +402,7 @@ module _ (t s : List ℕ) (g o a : ℕ) (posts : List ℕ) (word : ℕ) where
       (rung_none (Says 32) _ (refused_step 17 g s) _ (λ e. omega arith)
       (rung_none (Says 32) _ (refused_step 18 g s) _ (λ e. omega arith)
       (rung_none (Says 32) _ (refused_step 19 g s) _ (λ e. omega arith)
-      (λ e. ⊎_elim (λ (l : done_number (answer_of (step_as t s g a (locations_of posts) word (spoken_by t g a))) ≤ 15). omega arith)
+      (λ e. ⊎_elim (λ (l : answer_number (answer_of (step_as t s g a (locations_of posts) word (spoken_by t g a))) ≤ 15). omega arith)
       (λ x. omega (arith, x.1)) (inside (locations_of posts) (spoken_by t g a))))))
 
   -- Where they fit, `transition` is the inner step, of which the above is said.

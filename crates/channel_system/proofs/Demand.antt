@@ -6,7 +6,7 @@ use mathlib.Core.List.{List}
 use borrow.Author.Tests.{eqb-true}
 use Rattle.laws.proofs.Ladder.{rung}
 use Rattle.graph_checks.specs.Checks.{refused_by}
-use Rattle.program_graph.specs.Facts.{Ok}
+use Rattle.program_graph.specs.Facts.{Accepted}
 use Rattle.program_graph.proofs.AnswerLaws.{not_ok}
 use Rattle.system_tables.specs.Formed.{system_formed}
 use Rattle.system_state.specs.Words.{StateWords}
@@ -35,9 +35,9 @@ demand t formed s words calls =
     }
 
 -- So it does from whatever state `new_instance` makes, where it does not refuse: for any table, any words, and any calls.
-pub demand_from_new : (t s : List ℕ) → Ok (new_instance_of t s).answer → (calls : List Call) → Demanded t (new_instance_of t s).state calls
+pub demand_from_new : (t s : List ℕ) → Accepted (new_instance_of t s).answer → (calls : List Call) → Demanded t (new_instance_of t s).state calls
 unfolding new_instance_of
 demand_from_new t s =
-    let P : Made → Type 0 = λ m. Ok m.answer → (calls : List Call) → Demanded t m.state calls in
+    let P : Made → Type 0 = λ m. Accepted m.answer → (calls : List Call) → Demanded t m.state calls in
     let bad : Made = record { answer = refused_by 32; state = s } in
     rung P _ bad _ not_ok (λ formed. rung P _ bad _ not_ok (λ words e. demand t formed s (eqb-true _ _ words)))

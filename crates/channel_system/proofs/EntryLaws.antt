@@ -1,4 +1,5 @@
 -- Laws of seeking an entry among those of all graphs, for a loop over the graphs.
+use Rattle.std.specs.Prelude.{Ok, Some, None}
 use Prim.Native.Nat.{ℕ, zero, suc, ◌+◌, ◌<◌}
 use mathlib.Core.Path.{◌≡◌, refl, sym, ap, ◌∙◌}
 use mathlib.Core.List.{List, [], ◌∷◌, ◌++◌, append_assoc, append-nil}
@@ -10,7 +11,6 @@ use Rattle.graph_tables.specs.declared.answers.Entry.{Entry}
 use Rattle.run_steps.specs.Listing.{seek}
 use Rattle.run_steps.specs.declared.inner.listing.Sought.TheVariants.{Found, Left}
 use Rattle.channel_system.specs.Listing.{Possible, of_graph, listed_on, listed_below, entry_at}
-use Rattle.channel_system.specs.declared.answers.Listed.TheVariants.{At, End}
 
 -- entry k of two lists in a row is entry m of the second
 abbrev pub Passes : List Possible → ℕ → ℕ → Type 0
@@ -18,9 +18,9 @@ Passes ps k m = (qs : List Possible) → entry_at (ps ++ qs) k ≡ entry_at qs m
 
 -- ---- the list of graph g: what is found there is found in front of any list, and what is passed there is sought in that list
 module _ (g : ℕ) (qs : List Possible) where
-  of_found : {e : Entry} (es : List Entry) (k : ℕ) → seek es k ≡ Found e → entry_at (of_graph g es ++ qs) k ≡ At (record { 0 = g }) e
+  of_found : {e : Entry} (es : List Entry) (k : ℕ) → seek es k ≡ Found e → entry_at (of_graph g es ++ qs) k ≡ Ok (Some ((record { 0 = g }), e))
   of_found [] k h = let z : ◌≡◌ {A = ℕ} 0 1 = cc in absurd (omega arith)
-  of_found {e} (x ∷ es) zero h = let q : x ≡ e = cc in ap (At (record { 0 = g })) q
+  of_found {e} (x ∷ es) zero h = let q : x ≡ e = cc in ap ((λ x. Ok (Some ((record { 0 = g }), x)))) q
   of_found (x ∷ es) (suc k) h = of_found es k h
 
   of_left : {m : ℕ} (es : List Entry) (k : ℕ) → seek es k ≡ Left m → entry_at (of_graph g es ++ qs) k ≡ entry_at qs m
@@ -45,7 +45,7 @@ module _ (t s : List ℕ) (k : ℕ) where
 
   -- the entry of graph i, in front of any list
   found_here : {m : ℕ} {e : Entry} (i : ℕ) → Passes (listed_below t s i) k m → seek (listed_on t s i) m ≡ Found e → (qs : List Possible)
-      → entry_at (listed_below t s (suc i) ++ qs) k ≡ At (record { 0 = i }) e
+      → entry_at (listed_below t s (suc i) ++ qs) k ≡ Ok (Some ((record { 0 = i }), e))
   unfolding listed_below
   found_here {m} i p h qs =
       ap (λ (x : List Possible). entry_at x k) (append_assoc (listed_below t s i) (of_graph i (listed_on t s i)) qs)
@@ -54,7 +54,7 @@ module _ (t s : List ℕ) (k : ℕ) where
 
   -- it stays however many graphs follow
   found_among : {m : ℕ} {e : Entry} (n i : ℕ) → i < n → Passes (listed_below t s i) k m → seek (listed_on t s i) m ≡ Found e
-      → (qs : List Possible) → entry_at (listed_below t s n ++ qs) k ≡ At (record { 0 = i }) e
+      → (qs : List Possible) → entry_at (listed_below t s n ++ qs) k ≡ Ok (Some ((record { 0 = i }), e))
   unfolding listed_below
   found_among zero i l p h qs = absurd (not-suc-le-zero l)
   found_among (suc n) i l p h qs =
@@ -66,11 +66,11 @@ module _ (t s : List ℕ) (k : ℕ) where
       (eq-or-lt_of_le (le_of_suc-le-suc l))
 
   pub entry_found : {m : ℕ} {e : Entry} (n i : ℕ) → i < n → Passes (listed_below t s i) k m → seek (listed_on t s i) m ≡ Found e
-      → At (record { 0 = i }) e ≡ entry_at (listed_below t s n) k
+      → Ok (Some ((record { 0 = i }), e)) ≡ entry_at (listed_below t s n) k
   entry_found n i l p h =
       sym (ap (λ (x : List Possible). entry_at x k) (sym (append-nil (listed_below t s n))) ∙ found_among n i l p h [])
 
   -- all are passed
-  pub entry_end : {m : ℕ} (n i : ℕ) → i ≡ n → Passes (listed_below t s i) k m → End ≡ entry_at (listed_below t s n) k
+  pub entry_end : {m : ℕ} (n i : ℕ) → i ≡ n → Passes (listed_below t s i) k m → (Ok None) ≡ entry_at (listed_below t s n) k
   entry_end n i e p =
       sym (ap (λ (x : List Possible). entry_at x k) (sym (append-nil (listed_below t s n))) ∙ (rw e at (p [])))

@@ -55,8 +55,8 @@ module _ (t : List ℕ) (formed : system_formed t false ≡ true) (s : List ℕ)
 
   -- a wait that the graph has nothing against
   pub wait_as : (delta : ℕ) → graph.wait_fits (run_of s g) delta ≡ true → graph.wait_holds (graph_part t g) (run_of s g) delta ≡ true
-      → graph.wait_of (graph_part t g) (run_of s g) delta ≡ graph.accepted_wait (graph.later (run_of s g) delta)
+      → graph.wait_of (graph_part t g) (run_of s g) delta ≡ graph.accepted (graph.later (run_of s g) delta)
   unfolding graph.waited_of
   wait_as delta f k =
       public.wait_inner (graph_part t g) (run_of s g) run_fits_lem delta
-      ∙ sym (passed (graph.refused_wait 26 (run_of s g)) f (passed (graph.refused_wait 9 (run_of s g)) k refl))
+      ∙ sym (passed (graph.refused 26 (run_of s g)) f (passed (graph.refused 9 (run_of s g)) k refl))

@@ -1,4 +1,5 @@
 -- What is listed may be stepped, and what may be stepped is listed, process by process.
+use Rattle.std.specs.Prelude.{Ok, Some}
 use Prim.Native.Nat.{ℕ, ◌<◌}
 use mathlib.Core.Path.{◌≡◌, refl, sym, ap, subst, ◌∙◌}
 use mathlib.Core.Bool.{true}
@@ -17,9 +18,8 @@ use Rattle.run_steps.specs.Steps.{limit_holds, limits_hold, passes_of, clocks_af
 use Rattle.run_steps.specs.Listing.{clocks_by}
 use Rattle.run_steps.specs.Rows.{Row, entry_for, Open}
 use Rattle.run_steps.proofs.ListingLaws.{clocks_by_known, clocks_by_message, clocks_by_epsilon}
-use Rattle.program_graph.specs.Facts.{Ok, InvariantsAt, Passing, AllPass}
+use Rattle.program_graph.specs.Facts.{Accepted, InvariantsAt, Passing, AllPass}
 use Rattle.program_graph.specs.declared.record.ProgramGraphRun.{ProgramGraphRun}
-use Rattle.program_graph.specs.declared.answers.Listed.TheVariants.{At}
 use Rattle.program_graph.proofs.RunLaws.{left_over}
 use Rattle.program_graph.proofs.RunReady.{invariant_at, invariants_from, through}
 use Rattle.system_tables.specs.Words.{graph_count, channel_count, graph_part, communication_of}
@@ -127,7 +127,7 @@ module _ (t s : List ℕ) (fits : system_fits t s ≡ true) (sound : SystemSound
         let act = ap (λ (d : Entry). d.action.0) x.2 in
         let found = open_listed t s fits g known sound x.0
         (record { row = x.1; channel = ap (λ (n : ℕ). listed_as t s (spoken_by t g n)) act ∙ through-channel }) in
-        (found.0, found.1 ∙ ap At x.2),
+        (found.0, found.1 ∙ ap (λ (e : Entry). Ok (Some e)) x.2),
     λ f p l.
         let x = f p l in
         let y = entry_open t s fits g known sound x.0 _ x.1 in
@@ -166,14 +166,14 @@ module _ (t s : List ℕ) (fits : system_fits t s ≡ true) (sound : SystemSound
   module _ (o word : ℕ) (asked : Asked t g o posts) where
     -- A plain step with a location for each process is accepted or answers 26 exactly when each process has its entry in the list.
     pub plain_steps : (a ≡ epsilon → ⊥) → spoken_by t g a ≡ Plain
-        → (Ok (answer_of (moved_of t s g o a posts word)) ⊎ Answers 26 (answer_of (moved_of t s g o a posts word)))
+        → (Accepted (answer_of (moved_of t s g o a posts word)) ⊎ Answers 26 (answer_of (moved_of t s g o a posts word)))
         ↔ (PlainHanded t s g a posts × AllListed t s g a posts)
     plain_steps named plain =
         through (plain_past_guards t s g o a posts word asked named plain) (where_so (λ h. plain_listed h.action plain))
 
     -- A communication that its channel takes and lets be listed, with a post for each process, likewise.
     pub message_steps : StateSound t s → (m : Message) (q : ℕ) → Speaks t g a m q → listed_as t s (On m (record { 0 = q })) ≡ true
-        → (Ok (answer_of (moved_of t s g o a posts word)) ⊎ Answers 26 (answer_of (moved_of t s g o a posts word)))
+        → (Accepted (answer_of (moved_of t s g o a posts word)) ⊎ Answers 26 (answer_of (moved_of t s g o a posts word)))
         ↔ (ChannelTakes t s q m × ((length (locations_of posts) ≡ (run_of s g).processes) × AllListed t s g a posts))
     message_steps h m q speaks lets =
         through (message_past_guards t s g o a posts word asked m q speaks sound h)
@@ -182,7 +182,7 @@ module _ (t s : List ℕ) (fits : system_fits t s ≡ true) (sound : SystemSound
 -- A step by EPSILON is accepted exactly when there is a location for each process, and each has its entry in the list.
 pub autonomous_steps : (t s : List ℕ) → system_fits t s ≡ true → (sound : SystemSound t) (g o : ℕ) (posts : List ℕ) (word : ℕ)
     → Asked t g o posts
-    → Ok (answer_of (moved_of t s g o epsilon posts word)) ↔ (Handed t s g posts × AllListed t s g epsilon posts)
+    → Accepted (answer_of (moved_of t s g o epsilon posts word)) ↔ (Handed t s g posts × AllListed t s g epsilon posts)
 autonomous_steps t s fits sound g o posts word asked =
     let few = (sound.graph g asked.graph).counts.actions in
     let silent : spoken_by t g epsilon ≡ Plain

@@ -17,11 +17,10 @@ use Rattle.graph_tables.specs.Words.{epsilon}
 use Rattle.graph_tables.specs.declared.handed.Message.{Message}
 use Rattle.run_steps.specs.Messages.{no_message}
 use Rattle.program_graph.specs.declared.record.ProgramGraphRun.{ProgramGraphRun}
-use Rattle.program_graph.specs.declared.answers.Stepped.{Stepped}
-use Rattle.program_graph.specs.declared.answers.Sent.{Sent}
-use Rattle.program_graph.specs.declared.answers.Received.{Received}
+use Rattle.program_graph.specs.Running.{refused}
+use Rattle.program_graph.specs.Outcomes.{RunOutcome, Sent}
 use Rattle.program_graph.specs.Running.{step_of}
-use Rattle.program_graph.specs.Messaging.{refused_send, refused_receive, sent_of, received_of}
+use Rattle.program_graph.specs.Messaging.{refused_send, sent_of, received_of}
 use Rattle.system_tables.specs.Words as System
 use Rattle.system_tables.specs.declared.ids.Communication.{Communication}
 use Rattle.system_tables.specs.declared.ids.Communication.TheVariants.{Plain, On}
@@ -108,7 +107,7 @@ module _ (t : List ℕ) (run : ProgramGraphRun) (few : run.processes ≤ process
   unfolding received_of
   receive_few m =
       few_same ps (λ qs. received_of t run a qs m) run.processes _ few
-      (λ qs h. ap (unless (not (eqb a epsilon)) (refused_receive 15 run)) (sym (stopped (refused_receive 7 run) _ (ne_eqb _ _ h))))
+      (λ qs h. ap (unless (not (eqb a epsilon)) (refused 15 run)) (sym (stopped (refused 7 run) _ (ne_eqb _ _ h))))
 
 -- ---- and so does a step of the system
 module _ (t s : List ℕ) (g : ℕ) (few : (run_of s g).processes ≤ process_room) (a : ℕ) (ps : List ℕ) (word : ℕ) where
@@ -117,7 +116,7 @@ module _ (t s : List ℕ) (g : ℕ) (few : (run_of s g).processes ≤ process_ro
 
   plain_few : plain_step t s g a (looked ps) word ≡ plain_step t s g a ps word
   unfolding plain_step
-  plain_few = ap (λ (d : Stepped). told_if d.answer g s (no_event g) (ran_to t s g d.run)) (step_few G (run_of s g) few a ps word)
+  plain_few = ap (λ (d : RunOutcome). told_if d.answer g s (no_event g) (ran_to t s g d.run)) (step_few G (run_of s g) few a ps word)
 
   message_few : (q : ℕ) (m : Kind.Message) → message_step t s g a (looked ps) word q m ≡ message_step t s g a ps word q m
   unfolding send_step receive_step probe_step
@@ -125,7 +124,7 @@ module _ (t s : List ℕ) (g : ℕ) (few : (run_of s g).processes ≤ process_ro
       ap (λ (d : Sent). told_if d.answer g s (event_of g Send q d.message) (sent_into t (ran_to t s g d.run) q d.message))
       (send_few G (run_of s g) few a ps word)
   message_few q Receive =
-      ap (λ (d : Received). told_if d.answer g s (event_of g Receive q (oldest_in t s q)) (taken_from t (ran_to t s g d.run) q))
+      ap (λ (d : RunOutcome). told_if d.answer g s (event_of g Receive q (oldest_in t s q)) (taken_from t (ran_to t s g d.run) q))
       (receive_few G (run_of s g) few a ps (oldest_in t s q))
   message_few q ProbeEmptyQueue =
       ap (λ (d : Sent). told_if d.answer g s (event_of g ProbeEmptyQueue q no_message) (ran_to t s g d.run))

@@ -1,4 +1,6 @@
 -- Laws of a graph's own calls on its run in a state: what they leave of the whole state.
+use Rattle.graph_tables.specs.Answers.{Answer}
+use Rattle.std.specs.Prelude.{Ok, Err, ⊤}
 use Prim.Native.Nat.{ℕ, ◌≤◌, ◌<◌}
 use mathlib.Core.Path.{◌≡◌, sym, ap, ◌∙◌, subst}
 use mathlib.Core.List.{List, ◌++◌}
@@ -7,14 +9,13 @@ use native.Mathlib.Omega.{arith}
 use Rattle.graph_tables.specs.Sizes.{process_room}
 use Rattle.graph_tables.specs.RunWords.{run_words}
 use Rattle.graph_tables.specs.Sound.{Sound}
-use Rattle.graph_tables.specs.declared.answers.Done.{Done}
 use Rattle.graph_tables.specs.declared.handed.Message.{Message}
+use Rattle.program_graph.specs.Outcomes.{accepts, values_said}
 use Rattle.program_graph.specs.declared.record.ProgramGraphRun.{ProgramGraphRun}
-use Rattle.program_graph.specs.Facts.{Ok}
-use Rattle.program_graph.specs.Inner.{run_at, RunOf, Leaves, DidStep, DidReceive, DidSend}
+use Rattle.program_graph.specs.Facts.{Accepted}
+use Rattle.program_graph.specs.Inner.{run_at, RunOf, Leaves, DidCall, DidSend}
 use Rattle.program_graph.specs.Running.{step_of}
 use Rattle.program_graph.specs.Messaging.{sent_of, received_of}
-use Rattle.program_graph.specs.declared.inner.messages.Said.{Said}
 use Rattle.program_graph.specs.Written.{words_of}
 use Rattle.program_graph.proofs.AnswerLaws.{not_ok}
 use Rattle.program_graph.proofs.LeaveLaws.{processes_same}
@@ -45,14 +46,14 @@ module _ {t s : List ℕ} {g : ℕ} (f : Fitting t s g) where
 
   module _ (run : ProgramGraphRun) (after : List ℕ) (leaves : Leaves (graph_part t g) (run_part s g) run after) where
     -- the run that a call leaves stands in the state; a refused call leaves the run that was there, and so the state
-    left : (answer : Done) → ((Ok answer → ⊥) → run ≡ run_of s g) → with_run s g after ≡ left_by answer s (ran_to t s g run)
-    left Done.Accepted back = ap (with_run s g) (leaves_words part_sound leaves)
-    left (Done.Refused r) back =
+    left : (answer : Answer ⊤) → ((Accepted answer → ⊥) → run ≡ run_of s g) → with_run s g after ≡ left_by answer s (ran_to t s g run)
+    left (Ok _) back = ap (with_run s g) (leaves_words part_sound leaves)
+    left (Err r) back =
         ap (with_run s g)
         (leaves_words part_sound leaves ∙ ap (words_of (graph_part t g) (run_part s g)) (back not_ok) ∙ words_back part_sound part_run)
         ∙ with_run_back s g
 
-    pub ran : (answer : Done) → ((Ok answer → ⊥) → run ≡ run_of s g) → {u : List ℕ} → u ≡ with_run s g after → Ran t s g answer run u
+    pub ran : (answer : Answer ⊤) → ((Accepted answer → ⊥) → run ≡ run_of s g) → {u : List ℕ} → u ≡ with_run s g after → Ran t s g answer run u
     ran answer back {u} e =
         let words : StateWords u = subst StateWords (sym e) (with_run_words s f.state.words g small after leaves.words) in
         record {
@@ -71,40 +72,40 @@ module _ {t s : List ℕ} {g : ℕ} (f : Fitting t s g) where
 
     -- ---- what the graph's calls leave
     module _ (a : ℕ) (posts : List ℕ) (last : List ℕ) where
-      pub ran_step : (word : ℕ) (answer : Done)
-          → DidStep G (take m (drop at s)) answer last (step_of G (run_at (take m (drop at s))) a posts word)
+      pub ran_step : (word : ℕ) (answer : Answer ⊤)
+          → DidCall G (take m (drop at s)) answer last (step_of G (run_at (take m (drop at s))) a posts word)
           → (answer ≡ (step_of (graph_part t g) (run_of s g) a posts word).answer)
           × Ran t s g answer (step_of (graph_part t g) (run_of s g) a posts word).run (take at s ++ (last ++ drop m (drop at s)))
       ran_step word answer d =
-          let did : DidStep (graph_part t g) (run_part s g) answer last (step_of (graph_part t g) (run_of s g) a posts word) = rw
+          let did : DidCall (graph_part t g) (run_part s g) answer last (step_of (graph_part t g) (run_of s g) a posts word) = rw
           (graph, size, start) at d in (
             did.0,
             ran _ last did.1 answer
-                (λ no. step_refused (graph_part t g) (run_of s g) a posts word (λ ok. no (subst Ok (sym did.0) ok))) (placed last),
+                (λ no. step_refused (graph_part t g) (run_of s g) a posts word (λ ok. no (subst Accepted (sym did.0) ok))) (placed last),
           )
 
-      pub ran_receive : (message : Message) (answer : Done)
-          → DidReceive G (take m (drop at s)) answer last (received_of G (run_at (take m (drop at s))) a posts message)
+      pub ran_receive : (message : Message) (answer : Answer ⊤)
+          → DidCall G (take m (drop at s)) answer last (received_of G (run_at (take m (drop at s))) a posts message)
           → (answer ≡ (received_of (graph_part t g) (run_of s g) a posts message).answer)
           × Ran t s g answer (received_of (graph_part t g) (run_of s g) a posts message).run (take at s ++ (last ++ drop m (drop at s)))
       ran_receive message answer d =
-          let did : DidReceive (graph_part t g) (run_part s g) answer last (received_of (graph_part t g) (run_of s g) a posts message) =
+          let did : DidCall (graph_part t g) (run_part s g) answer last (received_of (graph_part t g) (run_of s g) a posts message) =
           rw (graph, size, start) at d in (
             did.0,
             ran _ last did.1 answer
-                (λ no. received_refused (graph_part t g) (run_of s g) a posts message (λ ok. no (subst Ok (sym did.0) ok))) (placed last),
+                (λ no. received_refused (graph_part t g) (run_of s g) a posts message (λ ok. no (subst Accepted (sym did.0) ok))) (placed last),
           )
 
-      pub ran_send : (word : ℕ) (said : Said)
+      pub ran_send : (word : ℕ) (said : Answer Message)
           → DidSend G (take m (drop at s)) said last (sent_of G (run_at (take m (drop at s))) a posts word)
-          → (said.answer ≡ (sent_of (graph_part t g) (run_of s g) a posts word).answer)
-          × (said.message ≡ (sent_of (graph_part t g) (run_of s g) a posts word).message)
-          × Ran t s g said.answer (sent_of (graph_part t g) (run_of s g) a posts word).run (take at s ++ (last ++ drop m (drop at s)))
+          → (accepts said ≡ (sent_of (graph_part t g) (run_of s g) a posts word).answer)
+          × (values_said said ≡ (sent_of (graph_part t g) (run_of s g) a posts word).message)
+          × Ran t s g (accepts said) (sent_of (graph_part t g) (run_of s g) a posts word).run (take at s ++ (last ++ drop m (drop at s)))
       ran_send word said d =
           let did : DidSend (graph_part t g) (run_part s g) said last (sent_of (graph_part t g) (run_of s g) a posts word) = rw
           (graph, size, start) at d in (
             did.answer,
             did.message,
-            ran _ last did.words said.answer
-                (λ no. (sent_refused (graph_part t g) (run_of s g) a posts word (λ ok. no (subst Ok (sym did.answer) ok))).0) (placed last),
+            ran _ last did.words (accepts said)
+                (λ no. (sent_refused (graph_part t g) (run_of s g) a posts word (λ ok. no (subst Accepted (sym did.answer) ok))).0) (placed last),
           )

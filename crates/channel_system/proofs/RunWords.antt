@@ -12,8 +12,7 @@ use Rattle.grammar.specs.Evaluation.{blank, evaluation_of}
 use Rattle.grammar.specs.Slots.{kind_in, payload_in, slots_of, words_in, FitVal}
 use Rattle.grammar.specs.declared.values.Val.{Val}
 use Rattle.grammar.specs.declared.values.Slot.{Slot}
-use Rattle.grammar.specs.declared.evaluation.Evaluated.{Evaluated}
-use Rattle.grammar.specs.declared.evaluation.Evaluated.TheVariants.{Known, NoValue}
+use Rattle.std.specs.Prelude.{Option, Some, None}
 use Rattle.grammar.proofs.SlotLaws.{slot_at, slots_length, words_length, kind_at_lem, payload_at, val_back}
 use Rattle.grammar.proofs.FitLaws.{slots_fit, FitEvaluated, evaluation_fits}
 use Rattle.graph_tables.specs.Sizes.{process_room, variable_room, clock_room}
@@ -28,13 +27,11 @@ use Rattle.run_steps.specs.Messages.{taken_below, taken_of}
 use Rattle.run_steps.proofs.StepLaws.{set_keeps, next_keeps, effects_length, reset_length, placed_length}
 use Rattle.run_steps.proofs.MessageLaws.{taken_length}
 use Rattle.program_graph.specs.Running.{moved_to, refused, autonomous_of, plain_of, acted_of, step_of}
-use Rattle.program_graph.specs.Messaging.{refused_send, said_of, sent_of, refused_receive, heard_of, received_of}
+use Rattle.program_graph.specs.Messaging.{refused_send, said_of, sent_of, heard_of, received_of}
 use Rattle.program_graph.specs.Inner.{run_at, RunOf, Leaves, Parts, with_vars}
 use Rattle.program_graph.specs.Written.{var_words_of, words_of}
 use Rattle.program_graph.specs.declared.record.ProgramGraphRun.{ProgramGraphRun}
-use Rattle.program_graph.specs.declared.answers.Stepped.{Stepped}
-use Rattle.program_graph.specs.declared.answers.Sent.{Sent}
-use Rattle.program_graph.specs.declared.answers.Received.{Received}
+use Rattle.program_graph.specs.Outcomes.{RunOutcome, Sent}
 use Rattle.program_graph.proofs.WordLaws.{places_length, vars_length, times_length, parts_run}
 use Rattle.program_graph.proofs.LeaveLaws.{variables_same}
 use Rattle.program_graph.proofs.RunLaws.{either_way}
@@ -150,11 +147,11 @@ takes_leaves {t} {r} {run} sound h f =
 
 -- ---- values that a program holds
 -- effects leave such
-assigned_held : (s : Effected) (v : ℕ) (e : Evaluated) (rest : ℕ) → FitEvaluated e → ((k : ℕ) → FitVal (get_or s.vars k blank).value)
+assigned_held : (s : Effected) (v : ℕ) (e : Option Val) (rest : ℕ) → FitEvaluated e → ((k : ℕ) → FitVal (get_or s.vars k blank).value)
     → (k : ℕ) → FitVal (get_or (assigned s v e rest).vars k blank).value
-assigned_held s v (Known x) rest f h k =
+assigned_held s v (Some x) rest f h k =
     set_keeps (λ (y : Slot). FitVal y.value) blank s.vars v (record { value = x }) k (λ e. f) (h k)
-assigned_held s v NoValue rest f h k = h k
+assigned_held s v None rest f h k = h k
 
 effects_held : (t : List ℕ) (a : ℕ) (s : Effected) → ((k : ℕ) → FitVal (get_or s.vars k blank).value) → (n k : ℕ)
     → FitVal (get_or (effects_below t a s n).vars k blank).value
@@ -229,7 +226,7 @@ module _ {t r : List ℕ} (sound : Sound t) (h : RunOf t r) where
   step_shaped : (a : ℕ) (posts : List ℕ) (word : ℕ) → Shaped (step_of t run a posts word).run
   unfolding step_of autonomous_of acted_of plain_of
   step_shaped a posts word =
-      let P : Stepped → Type 0 = λ s. Shaped s.run in
+      let P : RunOutcome → Type 0 = λ s. Shaped s.run in
       rung P _ (refused 7 run) _ shaped
       (λ e. rung P _ (refused 3 run) _ shaped
       (λ k. either_way P (eqb a epsilon) _ _
@@ -257,12 +254,12 @@ module _ {t r : List ℕ} (sound : Sound t) (h : RunOf t r) where
       → Shaped (received_of t run a posts m).run
   unfolding received_of heard_of
   receive_shaped a posts m fit =
-      let P : Received → Type 0 = λ s. Shaped s.run in
-      rung P _ (refused_receive 15 run) _ shaped
-      (λ n. rung P _ (refused_receive 7 run) _ shaped
-      (λ e. rung P _ (refused_receive 8 run) _ shaped
-      (λ g. rung P _ (refused_receive 15 run) _ shaped
-      (λ k. rung P _ (refused_receive 5 run) _ shaped
+      let P : RunOutcome → Type 0 = λ s. Shaped s.run in
+      rung P _ (refused 15 run) _ shaped
+      (λ n. rung P _ (refused 7 run) _ shaped
+      (λ e. rung P _ (refused 8 run) _ shaped
+      (λ g. rung P _ (refused 15 run) _ shaped
+      (λ k. rung P _ (refused 5 run) _ shaped
       (λ f. moved posts (taken_of t a m run.vars) run.times (taken_length t a m run.vars (effect_count t a) ∙ size)
       (times_length r words) (taken_held t a m run.vars (slots_fit (vars_in r)) (effect_count t a) fit))))))
 

@@ -1,4 +1,5 @@
 -- A step of a system leaves a state of its table, whatever it answers; and what each kind of step leaves of the state's parts.
+use Rattle.std.specs.Prelude.{Err}
 use Prim.Native.Nat.{ℕ, ◌+◌, ◌*◌, ◌/◌, ◌%◌, ◌<◌, ◌≤◌}
 use mathlib.Core.Path.{◌≡◌, refl, sym, ap, subst, ◌∙◌}
 use mathlib.Core.Bool.{Bool, true, false, cond}
@@ -12,16 +13,15 @@ use Rattle.laws.proofs.Tests.{never}
 use lib.ListN.{get_or}
 use Rattle.grammar.specs.Evaluation.{blank}
 use Rattle.grammar.specs.Slots.{FitVal}
-use Rattle.graph_tables.specs.Answers.{done_number}
+use Rattle.graph_tables.specs.Answers.{admitted, answer_number}
 use Rattle.graph_tables.specs.RunWords.{RunWords}
 use Rattle.graph_tables.specs.Messages.{message_count}
 use Rattle.graph_tables.specs.declared.refusals.Refusal.{Refusal}
-use Rattle.graph_tables.specs.declared.answers.Done.{Done}
 use Rattle.graph_tables.proofs.NumberLaws.{above_ok}
 use Rattle.program_graph.specs.Fits.{RunKept}
 use Rattle.program_graph.specs.Inner.{run_at, Leaves}
 use Rattle.program_graph.specs.declared.record.ProgramGraphRun.{ProgramGraphRun}
-use Rattle.program_graph.specs.declared.answers.Sent.{Sent}
+use Rattle.program_graph.specs.Outcomes.{Sent}
 use Rattle.program_graph.specs.Written.{words_of}
 use Rattle.program_graph.proofs.AnswerLaws.{is_ok}
 use Rattle.program_graph.proofs.KeptLaws as kept
@@ -52,10 +52,10 @@ use Rattle.channel_system.proofs.StepCases.{sent_on, received_on, stepped_on, Pl
 use Rattle.channel_system.proofs.StepCases.{step_cases}
 
 -- ---- an open channel has room, or a message
-opened : (b : Bool) (r : Refusal) → unless b (Done.Refused r) Done.Accepted ≡ Done.Accepted → b ≡ true
+opened : (b : Bool) (r : Refusal) → unless b (Err r) admitted ≡ admitted → b ≡ true
 unfolding unless
 opened true r e = refl
-opened false r e = absurd (above_ok r (ap done_number e))
+opened false r e = absurd (above_ok r (ap answer_number e))
 
 module _ (stored width : ℕ) (whole : stored % slots_for width ≡ 0) where
   -- so many whole messages
@@ -65,7 +65,7 @@ module _ (stored width : ℕ) (whole : stored % slots_for width ≡ 0) where
       let f = mul_comm (slots_for width) (stored / slots_for width) in
       omega (arith, e, f, whole)
 
-  open_room : (c : ChannelCapacity) → stored ≤ ceiling width c → send_test stored width c ≡ Done.Accepted → stores c ≡ true
+  open_room : (c : ChannelCapacity) → stored ≤ ceiling width c → send_test stored width c ≡ admitted → stores c ≡ true
       → stored + slots_for width ≤ ceiling width c
   unfolding send_test
   open_room (Bounded n) low e y =

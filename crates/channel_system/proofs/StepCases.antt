@@ -1,5 +1,7 @@
 -- A step of a system by cases: it is refused, with a number other than 32, and leaves the state; or it is a plain step, a send, a receive
 -- or a probe that its graph and its channel accept.
+use Rattle.graph_tables.specs.Answers.{Answer, admitted}
+use Rattle.std.specs.Prelude.{Ok, Err, ⊤}
 use Prim.Native.Nat.{ℕ, ◌<◌, ◌≤◌}
 use mathlib.Core.Path.{◌≡◌, refl, sym, subst}
 use mathlib.Core.Bool.{Bool}
@@ -13,16 +15,13 @@ use Rattle.laws.proofs.Ladder.{rung}
 use Rattle.graph_tables.specs.Words.{action_count, epsilon}
 use Rattle.graph_tables.specs.Refusals.{number_of, refusal}
 use Rattle.graph_tables.specs.declared.refusals.Refusal.{Refusal}
-use Rattle.graph_tables.specs.declared.answers.Done.{Done}
 use Rattle.graph_tables.specs.declared.handed.Message as Values
 use Rattle.run_steps.specs.Messages.{no_message}
 use Rattle.program_graph.specs.declared.record.ProgramGraphRun.{ProgramGraphRun}
-use Rattle.program_graph.specs.declared.answers.Stepped as Graph
-use Rattle.program_graph.specs.declared.answers.Sent.{Sent}
-use Rattle.program_graph.specs.declared.answers.Received.{Received}
+use Rattle.program_graph.specs.Outcomes.{RunOutcome, Sent}
 use Rattle.program_graph.specs.Facts.{Not}
 use Rattle.program_graph.specs.Running.{refused, autonomous_of, plain_of, acted_of, step_of}
-use Rattle.program_graph.specs.Messaging.{refused_send, said_of, sent_of, refused_receive, heard_of, received_of}
+use Rattle.program_graph.specs.Messaging.{refused_send, said_of, sent_of, heard_of, received_of}
 use Rattle.program_graph.proofs.AnswerLaws.{skip}
 use Rattle.program_graph.proofs.RunLaws.{either_way}
 use Rattle.queues.specs.Queues.{stored_of}
@@ -49,10 +48,10 @@ module _ (t : List ℕ) (run : ProgramGraphRun) where
   step_known : (a : ℕ) (posts : List ℕ) (word : ℕ) → Not 32 (step_of t run a posts word).answer
   unfolding step_of autonomous_of acted_of plain_of
   step_known a posts word =
-      let answer : Graph.Stepped → Done = λ s. s.answer in
+      let answer : RunOutcome → (Answer ⊤) = λ s. s.answer in
       skip answer 32 _ (refused 7 run) _ (λ e. omega arith)
       (skip answer 32 _ (refused 3 run) _ (λ e. omega arith)
-      (either_way (λ (s : Graph.Stepped). Not 32 s.answer) (eqb a epsilon) _ _
+      (either_way (λ (s : RunOutcome). Not 32 s.answer) (eqb a epsilon) _ _
       (λ q. skip answer 32 _ (refused 8 run) _ (λ e. omega arith)
       (λ e. omega arith))
       (λ q. skip answer 32 _ (refused 1 run) _ (λ e. omega arith)
@@ -64,7 +63,7 @@ module _ (t : List ℕ) (run : ProgramGraphRun) where
   send_known : (a : ℕ) (posts : List ℕ) (word : ℕ) → Not 32 (sent_of t run a posts word).answer
   unfolding sent_of said_of
   send_known a posts word =
-      let answer : Sent → Done = λ s. s.answer in
+      let answer : Sent → (Answer ⊤) = λ s. s.answer in
       skip answer 32 _ (refused_send 14 run) _ (λ e. omega arith)
       (skip answer 32 _ (refused_send 7 run) _ (λ e. omega arith)
       (skip answer 32 _ (refused_send 8 run) _ (λ e. omega arith)
@@ -75,40 +74,40 @@ module _ (t : List ℕ) (run : ProgramGraphRun) where
   receive_known : (a : ℕ) (posts : List ℕ) (m : Values.Message) → Not 32 (received_of t run a posts m).answer
   unfolding received_of heard_of
   receive_known a posts m =
-      let answer : Received → Done = λ s. s.answer in
-      skip answer 32 _ (refused_receive 15 run) _ (λ e. omega arith)
-      (skip answer 32 _ (refused_receive 7 run) _ (λ e. omega arith)
-      (skip answer 32 _ (refused_receive 8 run) _ (λ e. omega arith)
-      (skip answer 32 _ (refused_receive 15 run) _ (λ e. omega arith)
-      (skip answer 32 _ (refused_receive 5 run) _ (λ e. omega arith)
+      let answer : RunOutcome → (Answer ⊤) = λ s. s.answer in
+      skip answer 32 _ (refused 15 run) _ (λ e. omega arith)
+      (skip answer 32 _ (refused 7 run) _ (λ e. omega arith)
+      (skip answer 32 _ (refused 8 run) _ (λ e. omega arith)
+      (skip answer 32 _ (refused 15 run) _ (λ e. omega arith)
+      (skip answer 32 _ (refused 5 run) _ (λ e. omega arith)
       (λ e. omega arith)))))
 
-one_test : (b : Bool) (r : Refusal) → (number_of r ≡ 32 → ⊥) → (d : Done) → Not 32 d → Not 32 (unless b (Done.Refused r) d)
-one_test b r n d h = rung (Not 32) b (Done.Refused r) d n (λ e. h)
+one_test : (b : Bool) (r : Refusal) → (number_of r ≡ 32 → ⊥) → (d : Answer ⊤) → Not 32 d → Not 32 (unless b (Err r) d)
+one_test b r n d h = rung (Not 32) b (Err r) d n (λ e. h)
 
 send_test_lem : (stored width : ℕ) (c : ChannelCapacity) → Not 32 (send_test stored width c)
 unfolding send_test
-send_test_lem stored width (Bounded n) = one_test _ (refusal 20) (λ e. omega arith) Done.Accepted (λ e. omega arith)
-send_test_lem stored width Unbounded = one_test _ (refusal 27) (λ e. omega arith) Done.Accepted (λ e. omega arith)
+send_test_lem stored width (Bounded n) = one_test _ (refusal 20) (λ e. omega arith) admitted (λ e. omega arith)
+send_test_lem stored width Unbounded = one_test _ (refusal 27) (λ e. omega arith) admitted (λ e. omega arith)
 send_test_lem stored width Sink = λ e. omega arith
 
 reached_test : (stored : ℕ) (c : ChannelCapacity) → Not 32 (reached stored c)
-reached_test stored (Bounded n) = one_test _ (refusal 23) (λ e. omega arith) Done.Accepted (λ e. omega arith)
+reached_test stored (Bounded n) = one_test _ (refusal 23) (λ e. omega arith) admitted (λ e. omega arith)
 reached_test stored Unbounded = λ e. omega arith
 reached_test stored Sink = λ e. omega arith
 
 channel_test : (m : Message) (stored width : ℕ) (c : ChannelCapacity) → Not 32 (step_test m stored width c)
 unfolding receive_test empty_test full_test
 channel_test Send stored width c = send_test_lem stored width c
-channel_test Receive stored width c = one_test _ (refusal 21) (λ e. omega arith) Done.Accepted (λ e. omega arith)
+channel_test Receive stored width c = one_test _ (refusal 21) (λ e. omega arith) admitted (λ e. omega arith)
 channel_test ProbeEmptyQueue stored width c =
-    one_test _ (refusal 24) (λ e. omega arith) _ (one_test _ (refusal 22) (λ e. omega arith) Done.Accepted (λ e. omega arith))
+    one_test _ (refusal 24) (λ e. omega arith) _ (one_test _ (refusal 22) (λ e. omega arith) admitted (λ e. omega arith))
 channel_test ProbeFullQueue stored width c = one_test _ (refusal 24) (λ e. omega arith) _ (reached_test stored c)
 
 -- ---- the cases
 -- accepted, with this event and this state
 abbrev pub accepted_with : Event → List ℕ → Moved
-accepted_with e u = record { told = record { answer = Done.Accepted; event = e }; state = u }
+accepted_with e u = record { told = record { answer = admitted; event = e }; state = u }
 
 -- the posts of all graphs are those of graph g: its call sees its own locations
 module _ (t s : List ℕ) (g a : ℕ) (posts : List ℕ) (word : ℕ) where
@@ -119,20 +118,20 @@ module _ (t s : List ℕ) (g a : ℕ) (posts : List ℕ) (word : ℕ) where
   run = run_of s g
 
   -- the graph's own calls
-  abbrev pub stepped_on : Graph.Stepped
+  abbrev pub stepped_on : RunOutcome
   stepped_on = step_of (graph_part t g) (run_of s g) a (locations_of posts) word
 
   abbrev pub sent_on : Sent
   sent_on = sent_of (graph_part t g) (run_of s g) a (locations_of posts) word
 
-  abbrev pub received_on : ℕ → Received
+  abbrev pub received_on : ℕ → RunOutcome
   received_on q = received_of (graph_part t g) (run_of s g) a (locations_of posts) (oldest_in t s q)
 
   -- what an accepted plain step found
   pub record PlainFound : Type 0 where
     pub graph : g < graph_count t
     pub spoken : spoken_by t g a ≡ Plain
-    pub answer : stepped_on.answer ≡ Done.Accepted
+    pub answer : stepped_on.answer ≡ admitted
 
   -- what an accepted communication on channel q found before its graph's call
   pub record ChannelFound (m : Message) (q : ℕ) : Type 0 where
@@ -141,20 +140,20 @@ module _ (t s : List ℕ) (g a : ℕ) (posts : List ℕ) (word : ℕ) where
     pub spoken : spoken_by t g a ≡ On m (record { 0 = q })
     pub channel : q < channel_count t
     pub says : Says t q (graph_part t g) a m
-    pub ready : channel_answer t s q m ≡ Done.Accepted
+    pub ready : channel_answer t s q m ≡ admitted
 
   pub record SendFound (q : ℕ) : Type 0 where
     pub found : ChannelFound Send q
-    pub answer : sent_on.answer ≡ Done.Accepted
+    pub answer : sent_on.answer ≡ admitted
 
   pub record ReceiveFound (q : ℕ) : Type 0 where
     pub found : ChannelFound Receive q
-    pub answer : (received_on q).answer ≡ Done.Accepted
+    pub answer : (received_on q).answer ≡ admitted
 
   pub record ProbeFound (m : Message) (q : ℕ) : Type 0 where
     pub probe : empty_message ≤ message_word m
     pub found : ChannelFound m q
-    pub answer : sent_on.answer ≡ Done.Accepted
+    pub answer : sent_on.answer ≡ admitted
 
   -- something that holds in each of the cases
   pub record InEach (P : Moved → Type 0) : Type 0 where
@@ -168,14 +167,14 @@ module _ (t s : List ℕ) (g a : ℕ) (posts : List ℕ) (word : ℕ) where
 
   module _ (P : Moved → Type 0) (each : InEach P) where
     -- what the graph's call answers
-    told : (d : Done) (e : Event) (u : List ℕ) → Not 32 d → (d ≡ Done.Accepted → P (accepted_with e u)) → P (told_if d g s e u)
-    told Done.Accepted e u n h = h refl
-    told (Done.Refused r) e u n h = each.refusal r n
+    told : (d : Answer ⊤) (e : Event) (u : List ℕ) → Not 32 d → (d ≡ admitted → P (accepted_with e u)) → P (told_if d g s e u)
+    told (Ok _) e u n h = h refl
+    told (Err r) e u n h = each.refusal r n
 
     -- what the channel answers
-    opened : (d : Done) (rest : Moved) → Not 32 d → (d ≡ Done.Accepted → P rest) → P (open_if d g s rest)
-    opened Done.Accepted rest n h = h refl
-    opened (Done.Refused r) rest n h = each.refusal r n
+    opened : (d : Answer ⊤) (rest : Moved) → Not 32 d → (d ≡ admitted → P rest) → P (open_if d g s rest)
+    opened (Ok _) rest n h = h refl
+    opened (Err r) rest n h = each.refusal r n
 
     plain_case : g < graph_count t → spoken_by t g a ≡ Plain → P (plain_step t s g a (locations_of posts) word)
     unfolding plain_step

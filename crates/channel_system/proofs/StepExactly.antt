@@ -1,4 +1,5 @@
 -- When a step of a system is accepted, and when it answers each number of its graph's: exactly when.
+use Rattle.std.specs.Prelude.{Ok, Err, ⊤}
 use Prim.Native.Nat.{ℕ, ◌<◌, ◌≤◌}
 use mathlib.Core.Path.{◌≡◌, refl, sym, ap, subst, ◌∙◌}
 use mathlib.Core.Bool.{Bool, true, false}
@@ -12,16 +13,15 @@ use Rattle.laws.specs.Ladder.{unless}
 use Rattle.laws.specs.Below.{all_below}
 use Rattle.laws.proofs.Ladder.{rung}
 use Rattle.laws.proofs.Tests.{never}
-use Rattle.graph_tables.specs.Answers.{done_number}
+use Rattle.graph_tables.specs.Answers.{Answer, admitted, answer_number}
 use Rattle.graph_tables.specs.Sizes.{plain_kind}
 use Rattle.graph_tables.specs.Words.{action_count, action_kind, epsilon}
 use Rattle.graph_tables.specs.Messages.{message_count}
 use Rattle.graph_tables.proofs.MessageLaws.{plain_kind_lem}
-use Rattle.graph_tables.specs.declared.answers.Done.{Done}
 use Rattle.graph_checks.specs.Checks.{refused_by}
 use Rattle.run_steps.specs.Steps.{ready_of, clocks_after, effected_of, post_known}
 use Rattle.run_steps.specs.Messages.{spoken_of}
-use Rattle.program_graph.specs.Facts.{Ok, Not}
+use Rattle.program_graph.specs.Facts.{Accepted, Not}
 use Rattle.program_graph.specs.declared.record.ProgramGraphRun.{ProgramGraphRun}
 use Rattle.program_graph.proofs.RunLaws.{chosen, left_over}
 use Rattle.program_graph.proofs.AnswerLaws.{accepted_ok, not_ok}
@@ -51,7 +51,7 @@ use Rattle.channel_system.proofs.TestLaws.{receive_21}
 use Rattle.channel_system.proofs.ChannelExactly.{OfChannel, test_answers, channel_takes, asked_so, asked_moves, message_moves}
 
 -- an answer is ok exactly when its number is 0
-ok_so : (d : Done) → Ok d ↔ Answers 0 d
+ok_so : (d : Answer ⊤) → Accepted d ↔ Answers 0 d
 ok_so d = (λ o. o.number, λ e. record { number = e })
 
 same : {A : Type 0} → A ↔ A
@@ -91,7 +91,7 @@ module _ (t : List ℕ) (run : ProgramGraphRun) (a : ℕ) (posts : List ℕ) whe
 
   -- a number that is none of those before the guards
   module _ (n : ℕ) (not-7 : 7 ≡ n → ⊥) where
-    plain_before : {Q : Type 0} (d : Done) → (3 ≡ n → ⊥) → (1 ≡ n → ⊥) → (13 ≡ n → ⊥) → Answers n d ↔ Q
+    plain_before : {Q : Type 0} (d : Answer ⊤) → (3 ≡ n → ⊥) → (1 ≡ n → ⊥) → (13 ≡ n → ⊥) → Answers n d ↔ Q
         → Answers n
         (unless (eqb (length posts) run.processes) (refused_by 7)
         (unless (all_below (length posts) (post_known t posts)) (refused_by 3)
@@ -104,7 +104,7 @@ module _ (t : List ℕ) (run : ProgramGraphRun) (a : ℕ) (posts : List ℕ) whe
         (rung_on (Answers n) _ (refused_by 1) _ y (rung_on (Answers n) _ (refused_by 13) _ z f))))
         plain_posted
 
-    still_before : {Q : Type 0} (d : Done) → (3 ≡ n → ⊥) → Answers n d ↔ Q
+    still_before : {Q : Type 0} (d : Answer ⊤) → (3 ≡ n → ⊥) → Answers n d ↔ Q
         → Answers n
         (unless (eqb (length posts) run.processes) (refused_by 7)
         (unless (all_below (length posts) (post_known t posts)) (refused_by 3) d))
@@ -138,11 +138,11 @@ module _ (t s : List ℕ) (g o a : ℕ) (posts : List ℕ) (word : ℕ) (asked :
 
     -- A plain step is accepted exactly when there is a post for each process, each process has a transition that passes with the clocks
     -- that the action resets at 0, and each effect has a value in its turn.
-    pub plain_accepted : Ok (answer_of (moved_of t s g o a posts word))
+    pub plain_accepted : Accepted (answer_of (moved_of t s g o a posts word))
         ↔ (PlainHanded t s g a posts × (PlainReady t s g a posts × AllEffected t s g a word))
     plain_accepted =
         through (ok_so _)
-        (subst (λ (d : Done). Answers 0 d ↔ (PlainHanded t s g a posts × (PlainReady t s g a posts × AllEffected t s g a word)))
+        (subst (λ (d : Answer ⊤). Answers 0 d ↔ (PlainHanded t s g a posts × (PlainReady t s g a posts × AllEffected t s g a word)))
         (sym plain_answer)
         (plain_before G run a places 0 (λ e. omega arith) _ (λ e. omega arith) (λ e. omega arith) (λ e. omega arith)
         (through
@@ -153,7 +153,7 @@ module _ (t s : List ℕ) (g o a : ℕ) (posts : List ℕ) (word : ℕ) (asked :
     pub plain_26 : Answers 26 (answer_of (moved_of t s g o a posts word))
         ↔ (PlainHanded t s g a posts × (PlainReady t s g a posts × (AllEffected t s g a word → ⊥)))
     plain_26 =
-        subst (λ (d : Done). Answers 26 d ↔ (PlainHanded t s g a posts × (PlainReady t s g a posts × (AllEffected t s g a word → ⊥))))
+        subst (λ (d : Answer ⊤). Answers 26 d ↔ (PlainHanded t s g a posts × (PlainReady t s g a posts × (AllEffected t s g a word → ⊥))))
         (sym plain_answer)
         (plain_before G run a places 26 (λ e. omega arith) _ (λ e. omega arith) (λ e. omega arith) (λ e. omega arith)
         (through
@@ -164,7 +164,7 @@ module _ (t s : List ℕ) (g o a : ℕ) (posts : List ℕ) (word : ℕ) (asked :
     pub plain_8 : Answers 8 (answer_of (moved_of t s g o a posts word))
         ↔ (PlainHanded t s g a posts × (PlainReady t s g a posts → ⊥))
     plain_8 =
-        subst (λ (d : Done). Answers 8 d ↔ (PlainHanded t s g a posts × (PlainReady t s g a posts → ⊥))) (sym plain_answer)
+        subst (λ (d : Answer ⊤). Answers 8 d ↔ (PlainHanded t s g a posts × (PlainReady t s g a posts → ⊥))) (sym plain_answer)
         (plain_before G run a places 8 (λ e. omega arith) _ (λ e. omega arith) (λ e. omega arith) (λ e. omega arith)
         (through
         (rung_here (Answers 8) _ (refused_by 8) _ refl
@@ -173,7 +173,7 @@ module _ (t s : List ℕ) (g o a : ℕ) (posts : List ℕ) (word : ℕ) (asked :
 
     -- It gets past its guards, to be accepted or to answer 26, exactly when there is a post for each process, and each has such a
     -- transition.
-    pub plain_past_guards : (Ok (answer_of (moved_of t s g o a posts word)) ⊎ Answers 26 (answer_of (moved_of t s g o a posts word)))
+    pub plain_past_guards : (Accepted (answer_of (moved_of t s g o a posts word)) ⊎ Answers 26 (answer_of (moved_of t s g o a posts word)))
         ↔ (PlainHanded t s g a posts × PlainReady t s g a posts)
     plain_past_guards = (
       ⊎_elim (λ k. let p = plain_accepted.0 k in (p.0, p.1.0)) (λ k. let p = plain_26.0 k in (p.0, p.1.0)),
@@ -181,7 +181,7 @@ module _ (t s : List ℕ) (g o a : ℕ) (posts : List ℕ) (word : ℕ) (asked :
     )
       where
         by : PlainHanded t s g a posts × PlainReady t s g a posts → (b : Bool) → (effected_of G a run.vars word).fits ≡ b
-            → Ok (answer_of (moved_of t s g o a posts word)) ⊎ Answers 26 (answer_of (moved_of t s g o a posts word))
+            → Accepted (answer_of (moved_of t s g o a posts word)) ⊎ Answers 26 (answer_of (moved_of t s g o a posts word))
         by p true e = inl (plain_accepted.1 (p.0, (p.1, effects_so.0 e)))
         by p false e = inr (plain_26.1 (p.0, (p.1, λ v. never (sym e ∙ effects_so.1 v))))
 
@@ -192,7 +192,7 @@ module _ (t s : List ℕ) (g o a : ℕ) (posts : List ℕ) (word : ℕ) (asked :
     -- It answers 7 exactly when there is not a post for each process.
     pub plain_7 : Answers 7 (answer_of (moved_of t s g o a posts word)) ↔ (length (locations_of posts) ≡ (run_of s g).processes → ⊥)
     plain_7 =
-        subst (λ (d : Done). Answers 7 d ↔ (length places ≡ run.processes → ⊥)) (sym plain_answer)
+        subst (λ (d : Answer ⊤). Answers 7 d ↔ (length places ≡ run.processes → ⊥)) (sym plain_answer)
         (through
         (rung_here (Answers 7) _ (refused_by 7) _ refl
         (rung_none (Answers 7) _ (refused_by 3) _ (λ e. omega arith)
@@ -206,7 +206,7 @@ module _ (t s : List ℕ) (g o a : ℕ) (posts : List ℕ) (word : ℕ) (asked :
     pub plain_3 : Answers 3 (answer_of (moved_of t s g o a posts word))
         ↔ ((length (locations_of posts) ≡ (run_of s g).processes) × Lost (graph_part t g) (locations_of posts))
     plain_3 =
-        subst (λ (d : Done). Answers 3 d ↔ ((length places ≡ run.processes) × Lost G places)) (sym plain_answer)
+        subst (λ (d : Answer ⊤). Answers 3 d ↔ ((length places ≡ run.processes) × Lost G places)) (sym plain_answer)
         (through
         (rung_on (Answers 3) _ (refused_by 7) _ (λ e. omega arith)
         (rung_here (Answers 3) _ (refused_by 3) _ refl
@@ -219,7 +219,7 @@ module _ (t s : List ℕ) (g o a : ℕ) (posts : List ℕ) (word : ℕ) (asked :
     -- It answers 1 exactly when there is a location for each process, and the graph has no such action.
     pub plain_1 : Answers 1 (answer_of (moved_of t s g o a posts word)) ↔ (Handed t s g posts × (action_count (graph_part t g) ≤ a))
     plain_1 =
-        subst (λ (d : Done). Answers 1 d ↔ (Handed t s g posts × (action_count G ≤ a))) (sym plain_answer)
+        subst (λ (d : Answer ⊤). Answers 1 d ↔ (Handed t s g posts × (action_count G ≤ a))) (sym plain_answer)
         (still_before G run a places 1 (λ e. omega arith) _ (λ e. omega arith)
         (through
         (rung_here (Answers 1) _ (refused_by 1) _ refl
@@ -235,7 +235,7 @@ module _ (t s : List ℕ) (g o a : ℕ) (posts : List ℕ) (word : ℕ) (asked :
         (rung_on (Answers 13) (ltb a (action_count G)) (refused_by 1) _ (λ e. omega arith)
         (rung_here (Answers 13) (eqb (action_kind G a) plain_kind) (refused_by 13) _ refl
         (rung_none (Answers 13) _ (refused_by 8) _ (λ e. omega arith)
-        (rung_none (Answers 13) _ (refused_by 26) Done.Accepted (λ e. omega arith) (λ e. omega arith)))))
+        (rung_none (Answers 13) _ (refused_by 26) admitted (λ e. omega arith) (λ e. omega arith)))))
         ).0 (subst (Answers 13) plain_answer e) in
         let l = ltb-true _ _ p.1.0 in
         let none : communication_of t g a ≡ Plain = chosen Plain p.1.0 refl ∙ plain in
@@ -272,14 +272,14 @@ module _ (t s : List ℕ) (g o a : ℕ) (posts : List ℕ) (word : ℕ) (asked :
         ∙ ap (message_ladder G run a places) (probe_said p)
 
     -- what is received is of the action's kinds
-    oldest_is : MessageSound t q G a → q < channel_count t → Ok (channel_answer t s q Receive) → MessageOf G a (oldest_in t s q)
+    oldest_is : MessageSound t q G a → q < channel_count t → Accepted (channel_answer t s q Receive) → MessageOf G a (oldest_in t s q)
     oldest_is kinds known k =
         kept_said sound q known kinds
         (first_kept sound q known h
         (one_message sound q known h
         (λ none. let z = (receive_21 (stored_of (queue_part s q))).1 none in let y = k.number in absurd (omega arith))))
 
-    message_answer : (k : Message) → Says t q G a k → Ok (channel_answer t s q k)
+    message_answer : (k : Message) → Says t q G a k → Accepted (channel_answer t s q k)
         → answer_of (message_step t s g a places word q k) ≡ message_ladder G run a places (said_test k)
     unfolding send_step receive_step
     message_answer Send x k = send_ladder G run a places (sound.graph g asked.graph) speaks.action word x.0
@@ -290,24 +290,24 @@ module _ (t s : List ℕ) (g o a : ℕ) (posts : List ℕ) (word : ℕ) (asked :
     message_answer ProbeFullQueue x k = probe_answer x ProbeFullQueue
 
     -- a number that is not the channel's is the graph's, of an open channel
-    open_then : (n : ℕ) (d : Done) (rest : Moved) → (ByChannel n → ⊥) → OfChannel d
-        → Answers n (answer_of (open_if d g s rest)) ↔ (Ok d × Answers n (answer_of rest))
-    open_then n Done.Accepted rest f own = (λ e. (accepted_ok, e), λ p. p.1)
-    open_then n (Done.Refused r) rest f own = (
-      λ e. absurd (⊎_elim (λ k. not_ok k) (λ (b : ByChannel (done_number (Done.Refused r))). f (subst ByChannel e b)) own),
+    open_then : (n : ℕ) (d : Answer ⊤) (rest : Moved) → (ByChannel n → ⊥) → OfChannel d
+        → Answers n (answer_of (open_if d g s rest)) ↔ (Accepted d × Answers n (answer_of rest))
+    open_then n (Ok _) rest f own = (λ e. (accepted_ok, e), λ p. p.1)
+    open_then n (Err r) rest f own = (
+      λ e. absurd (⊎_elim (λ k. not_ok k) (λ (b : ByChannel (answer_number {A = ⊤} (Err r))). f (subst ByChannel e b)) own),
       λ p. not_ok p.0,
     )
 
     message_ladder_lem : (n : ℕ) → (ByChannel n → ⊥)
         → Answers n (answer_of (moved_of t s g o a posts word))
-        ↔ (Ok (channel_answer t s q m) × Answers n (message_ladder G run a places (said_test m)))
+        ↔ (Accepted (channel_answer t s q m) × Answers n (message_ladder G run a places (said_test m)))
     message_ladder_lem n f =
-        subst (λ (x : Moved). Answers n (answer_of x) ↔ (Ok (channel_answer t s q m) × Answers n (message_ladder G run a places (said_test m))))
+        subst (λ (x : Moved). Answers n (answer_of x) ↔ (Accepted (channel_answer t s q m) × Answers n (message_ladder G run a places (said_test m))))
         (sym (message_moves t s g o a posts word m q asked speaks))
         (through
         (open_then n (channel_answer t s q m) (message_step t s g a places word q m) f
         (test_answers (stored_of (queue_part s q)) (width_of t q) m (capacity_of t q)))
-        (where_so (λ k. subst (λ (d : Done). Answers n (answer_of (message_step t s g a places word q m)) ↔ Answers n d)
+        (where_so (λ k. subst (λ (d : Answer ⊤). Answers n (answer_of (message_step t s g a places word q m)) ↔ Answers n d)
         (message_answer m says.1 k) same)))
 
     one_each_so : (eqb (length places) run.processes ≡ true) ↔ (length places ≡ run.processes)
@@ -315,7 +315,7 @@ module _ (t s : List ℕ) (g o a : ℕ) (posts : List ℕ) (word : ℕ) (asked :
 
     -- A communication is accepted exactly when its channel takes it, there is a post for each process, each process has a transition that
     -- passes on the clocks as they are, and, of a send, each expression has a value.
-    pub message_accepted : Ok (answer_of (moved_of t s g o a posts word))
+    pub message_accepted : Accepted (answer_of (moved_of t s g o a posts word))
         ↔ (ChannelTakes t s q m
         × ((length (locations_of posts) ≡ (run_of s g).processes) × (Ready t s g a posts × Uttered m t s g a word)))
     message_accepted =
@@ -325,7 +325,7 @@ module _ (t s : List ℕ) (g o a : ℕ) (posts : List ℕ) (word : ℕ) (asked :
         (through
         (rung_on (Answers 0) _ (refused_by 7) _ (λ e. omega arith)
         (rung_on (Answers 0) _ (refused_by 8) _ (λ e. omega arith)
-        (rung_last (Answers 0) (said_test m) (refused_by 26) Done.Accepted (λ e. omega arith) refl)))
+        (rung_last (Answers 0) (said_test m) (refused_by 26) admitted (λ e. omega arith) refl)))
         (both_so one_each_so (both_so (all_pass G run places a run.times) (said_so m))))))
 
     -- It answers 7 exactly when its channel takes it, and there is not a post for each process.
@@ -337,7 +337,7 @@ module _ (t s : List ℕ) (g o a : ℕ) (posts : List ℕ) (word : ℕ) (asked :
         (through
         (rung_here (Answers 7) _ (refused_by 7) _ refl
         (rung_none (Answers 7) _ (refused_by 8) _ (λ e. omega arith)
-        (rung_none (Answers 7) (said_test m) (refused_by 26) Done.Accepted (λ e. omega arith) (λ e. omega arith))))
+        (rung_none (Answers 7) (said_test m) (refused_by 26) admitted (λ e. omega arith) (λ e. omega arith))))
         (not_so _ one_each_so)))
 
     -- It answers 8 exactly when there is, and some process has no such transition.
@@ -349,7 +349,7 @@ module _ (t s : List ℕ) (g o a : ℕ) (posts : List ℕ) (word : ℕ) (asked :
         (through
         (rung_on (Answers 8) _ (refused_by 7) _ (λ e. omega arith)
         (rung_here (Answers 8) _ (refused_by 8) _ refl
-        (rung_none (Answers 8) (said_test m) (refused_by 26) Done.Accepted (λ e. omega arith) (λ e. omega arith))))
+        (rung_none (Answers 8) (said_test m) (refused_by 26) admitted (λ e. omega arith) (λ e. omega arith))))
         (both_so one_each_so (not_so _ (all_pass G run places a run.times)))))
 
     -- It answers 26 exactly when they have, and an expression of a send has no value; so of no other communication.
@@ -362,12 +362,12 @@ module _ (t s : List ℕ) (g o a : ℕ) (posts : List ℕ) (word : ℕ) (asked :
         (through
         (rung_on (Answers 26) _ (refused_by 7) _ (λ e. omega arith)
         (rung_on (Answers 26) _ (refused_by 8) _ (λ e. omega arith)
-        (rung_here (Answers 26) (said_test m) (refused_by 26) Done.Accepted refl (λ e. omega arith))))
+        (rung_here (Answers 26) (said_test m) (refused_by 26) admitted refl (λ e. omega arith))))
         (both_so one_each_so (both_so (all_pass G run places a run.times) (not_so _ (said_so m))))))
 
     -- It gets past its guards, to be accepted or to answer 26, exactly when its channel takes it, there is a post for each process, and
     -- each process has such a transition.
-    pub message_past_guards : (Ok (answer_of (moved_of t s g o a posts word)) ⊎ Answers 26 (answer_of (moved_of t s g o a posts word)))
+    pub message_past_guards : (Accepted (answer_of (moved_of t s g o a posts word)) ⊎ Answers 26 (answer_of (moved_of t s g o a posts word)))
         ↔ (ChannelTakes t s q m × ((length (locations_of posts) ≡ (run_of s g).processes) × Ready t s g a posts))
     message_past_guards = (
       ⊎_elim (λ k. let p = message_accepted.0 k in (p.0, (p.1.0, p.1.1.0)))
@@ -377,7 +377,7 @@ module _ (t s : List ℕ) (g o a : ℕ) (posts : List ℕ) (word : ℕ) (asked :
       where
         by : ChannelTakes t s q m × ((length (locations_of posts) ≡ (run_of s g).processes) × Ready t s g a posts)
             → (b : Bool) → said_test m ≡ b
-            → Ok (answer_of (moved_of t s g o a posts word)) ⊎ Answers 26 (answer_of (moved_of t s g o a posts word))
+            → Accepted (answer_of (moved_of t s g o a posts word)) ⊎ Answers 26 (answer_of (moved_of t s g o a posts word))
         by p true e = inl (message_accepted.1 (p.0, (p.1.0, (p.1.1, (said_so m).0 e))))
         by p false e = inr (message_26.1 (p.0, (p.1.0, (p.1.1, λ u. never (sym e ∙ (said_so m).1 u)))))
 
@@ -396,22 +396,22 @@ module _ (t s : List ℕ) (g o a : ℕ) (posts : List ℕ) (word : ℕ) (asked :
     message_never n x y z l e =
         rung_none (Answers n) _ (refused_by 7) _ (λ e. y (sym e))
         (rung_none (Answers n) _ (refused_by 8) _ (λ e. z (sym e))
-        (rung_none (Answers n) (said_test m) (refused_by 26) Done.Accepted (λ e. omega arith) (λ e. x (sym e))))
+        (rung_none (Answers n) (said_test m) (refused_by 26) admitted (λ e. omega arith) (λ e. x (sym e))))
         ((message_ladder_lem n (λ b. let low = b.low in absurd (omega arith))).0 e).1
 
 -- ---- the public call
 module _ (t s : List ℕ) (g o a : ℕ) (posts : List ℕ) (word : ℕ) where
   -- `transition` is accepted exactly when table and state fit, the graph is there, action and posts are its own, and the step is accepted.
-  pub accepted_asked : Ok (answer_of (transition_of t s g o a posts word))
-      ↔ ((system_fits t s ≡ true) × (Asked t g o posts × Ok (answer_of (moved_of t s g o a posts word))))
+  pub accepted_asked : Accepted (answer_of (transition_of t s g o a posts word))
+      ↔ ((system_fits t s ≡ true) × (Asked t g o posts × Accepted (answer_of (moved_of t s g o a posts word))))
   unfolding transition_of moved_of
   accepted_asked =
       rung_on P (system_fits t s) (refused_step 32 g s) (moved_of t s g o a posts word) not_ok (λ k. (moved k, k), λ p. p.1)
     where
       P : Moved → Type 0
-      P x = Ok (answer_of x)
+      P x = Accepted (answer_of x)
 
-      moved : Ok (answer_of (moved_of t s g o a posts word)) → Asked t g o posts
+      moved : Accepted (answer_of (moved_of t s g o a posts word)) → Asked t g o posts
       moved =
           let Q : Moved → Type 0 = λ x. P x → Asked t g o posts in
           rung Q _ (refused_step 17 g s) _ not_ok
@@ -436,10 +436,10 @@ module _ (t s : List ℕ) (g o : ℕ) (posts : List ℕ) (word : ℕ) (asked : A
 
   -- A step by EPSILON is accepted exactly when there is a post for each process, and each has a transition that passes on the clocks as
   -- they are.
-  pub autonomous_accepted : Ok (answer_of (moved_of t s g o epsilon posts word)) ↔ (Handed t s g posts × Ready t s g epsilon posts)
+  pub autonomous_accepted : Accepted (answer_of (moved_of t s g o epsilon posts word)) ↔ (Handed t s g posts × Ready t s g epsilon posts)
   autonomous_accepted =
       through (ok_so _)
-      (subst (λ (d : Done). Answers 0 d ↔ (Handed t s g posts × Ready t s g epsilon posts)) (sym autonomous_answer)
+      (subst (λ (d : Answer ⊤). Answers 0 d ↔ (Handed t s g posts × Ready t s g epsilon posts)) (sym autonomous_answer)
       (still_before (graph_part t g) (run_of s g) epsilon (locations_of posts) 0 (λ e. omega arith) _ (λ e. omega arith)
       (through (rung_last (Answers 0) _ (refused_by 8) _ (λ e. omega arith) refl)
       (all_pass (graph_part t g) (run_of s g) (locations_of posts) epsilon (run_of s g).times))))
@@ -451,7 +451,7 @@ module _ (t s : List ℕ) (g o : ℕ) (posts : List ℕ) (word : ℕ) (asked : A
   -- It answers 7 exactly when there is not a post for each process.
   pub autonomous_7 : Answers 7 (answer_of (moved_of t s g o epsilon posts word)) ↔ (length (locations_of posts) ≡ (run_of s g).processes → ⊥)
   autonomous_7 =
-      subst (λ (d : Done). Answers 7 d ↔ (length (locations_of posts) ≡ (run_of s g).processes → ⊥)) (sym autonomous_answer)
+      subst (λ (d : Answer ⊤). Answers 7 d ↔ (length (locations_of posts) ≡ (run_of s g).processes → ⊥)) (sym autonomous_answer)
       (through
       (rung_here (Answers 7) _ (refused_by 7) _ refl
       (rung_none (Answers 7) _ (refused_by 3) _ (λ e. omega arith)
@@ -462,7 +462,7 @@ module _ (t s : List ℕ) (g o : ℕ) (posts : List ℕ) (word : ℕ) (asked : A
   pub autonomous_3 : Answers 3 (answer_of (moved_of t s g o epsilon posts word))
       ↔ ((length (locations_of posts) ≡ (run_of s g).processes) × Lost (graph_part t g) (locations_of posts))
   autonomous_3 =
-      subst (λ (d : Done). Answers 3 d ↔ ((length (locations_of posts) ≡ (run_of s g).processes) × Lost (graph_part t g) (locations_of posts)))
+      subst (λ (d : Answer ⊤). Answers 3 d ↔ ((length (locations_of posts) ≡ (run_of s g).processes) × Lost (graph_part t g) (locations_of posts)))
       (sym autonomous_answer)
       (through
       (rung_on (Answers 3) _ (refused_by 7) _ (λ e. omega arith)
@@ -473,7 +473,7 @@ module _ (t s : List ℕ) (g o : ℕ) (posts : List ℕ) (word : ℕ) (asked : A
   -- It answers 8 exactly when some process has none.
   pub autonomous_8 : Answers 8 (answer_of (moved_of t s g o epsilon posts word)) ↔ (Handed t s g posts × (Ready t s g epsilon posts → ⊥))
   autonomous_8 =
-      subst (λ (d : Done). Answers 8 d ↔ (Handed t s g posts × (Ready t s g epsilon posts → ⊥))) (sym autonomous_answer)
+      subst (λ (d : Answer ⊤). Answers 8 d ↔ (Handed t s g posts × (Ready t s g epsilon posts → ⊥))) (sym autonomous_answer)
       (still_before (graph_part t g) (run_of s g) epsilon (locations_of posts) 8 (λ e. omega arith) _ (λ e. omega arith)
       (through (rung_here (Answers 8) _ (refused_by 8) _ refl (λ e. omega arith))
       (not_so _ (all_pass (graph_part t g) (run_of s g) (locations_of posts) epsilon (run_of s g).times))))

@@ -1,15 +1,16 @@
 -- Laws of a step of a system: from what its parts answer to the whole.
+use Rattle.graph_tables.specs.Answers.{Answer, admitted}
+use Rattle.std.specs.Prelude.{Ok, Err, ⊤}
 use Prim.Native.Nat.{ℕ, ◌≤◌, ◌<◌}
 use mathlib.Core.Path.{◌≡◌, refl, sym, ap, ◌∙◌, subst}
 use mathlib.Core.Bool.{Bool, true, false, cond}
-use mathlib.Core.List.{List, []}
+use mathlib.Core.List.{List}
 use native.Mathlib.Omega.{arith}
 use lib.Dec.{ltb}
 use borrow.Author.Tests.{ltb-true}
 use Rattle.laws.specs.Ladder.{unless}
 use Rattle.graph_tables.specs.Sizes.{message_room}
 use Rattle.graph_tables.specs.Words.{action_count}
-use Rattle.graph_tables.specs.declared.answers.Done.{Done}
 use Rattle.graph_tables.specs.declared.refusals.Refusal.{Refusal}
 use Rattle.graph_tables.specs.declared.handed.Message as Values
 use Rattle.graph_checks.specs.Checks.{refused_by}
@@ -26,37 +27,34 @@ use Rattle.system_tables.specs.declared.ids.Message.TheVariants.{Send}
 use Rattle.system_tables.specs.declared.ids.Communication.TheVariants.{Plain, On}
 use Rattle.system_state.specs.Words.{queue_part}
 use Rattle.channel_system.specs.declared.answers.Event.{Event}
-use Rattle.channel_system.specs.declared.answers.Stepped.{Stepped}
 use Rattle.channel_system.specs.Channels.{receive_test}
 use Rattle.channel_system.specs.Steps.{run_of, ran_to}
-use Rattle.channel_system.specs.Steps.{left_by, no_event, event_if, told_if, refused_with}
+use Rattle.channel_system.specs.Steps.{left_by, told_if}
 use Rattle.channel_system.specs.Steps.{spoken_by}
 use Rattle.channel_system.specs.Facts.{Fitting, Speaks, Ran, DidMove}
 use Rattle.channel_system.proofs.RunLaws.{part_sound, part_run}
 use Rattle.channel_system.proofs.TransferLaws.{queue_small, queue_counted, message_stored}
 
 -- ---- what the graph's call answered decides what is left
-pub ran_state : {t s u : List ℕ} {g : ℕ} {answer d : Done} {run : ProgramGraphRun} → Ran t s g answer run u → answer ≡ d
+pub ran_state : {t s u : List ℕ} {g : ℕ} {answer d : Answer ⊤} {run : ProgramGraphRun} → Ran t s g answer run u → answer ≡ d
     → u ≡ left_by d s (ran_to t s g run)
-ran_state {t} {s} {g = g} {run = run} h e = h.state ∙ ap (λ (c : Done). left_by c s (ran_to t s g run)) e
+ran_state {t} {s} {g = g} {run = run} h e = h.state ∙ ap (λ (c : Answer ⊤). left_by c s (ran_to t s g run)) e
 
 -- it was refused: the state that came in; it was accepted: the run is there
-pub ran_back : {t s u : List ℕ} {g : ℕ} {answer : Done} {run : ProgramGraphRun} {r : Refusal} → Ran t s g answer run u
-    → answer ≡ Done.Refused r → u ≡ s
+pub ran_back : {t s u : List ℕ} {g : ℕ} {answer : Answer ⊤} {run : ProgramGraphRun} {r : Refusal} → Ran t s g answer run u
+    → answer ≡ Err r → u ≡ s
 ran_back h e = ran_state h e
 
-pub ran_on_lem : {t s u : List ℕ} {g : ℕ} {answer : Done} {run : ProgramGraphRun} → Ran t s g answer run u → answer ≡ Done.Accepted
+pub ran_on_lem : {t s u : List ℕ} {g : ℕ} {answer : Answer ⊤} {run : ProgramGraphRun} → Ran t s g answer run u → answer ≡ admitted
     → u ≡ ran_to t s g run
 ran_on_lem h e = ran_state h e
 
-module _ {d : Done} (g : ℕ) (s : List ℕ) (e : Event) (u : List ℕ) {x : Stepped} {last : List ℕ} where
-  pub told_refused : {r : Refusal} → d ≡ Done.Refused r → x ≡ (refused_with r g []).told → last ≡ s → DidMove x last (told_if d g s e u)
-  told_refused h told state =
-      (told ∙ ap (λ (c : Done). (told_if c g s e u).told) (sym h), state ∙ ap (λ (c : Done). left_by c s u) (sym h))
+module _ {d : Answer ⊤} (g : ℕ) (s : List ℕ) (e : Event) (u : List ℕ) {x : Answer Event} {last : List ℕ} where
+  pub told_refused : {r : Refusal} → d ≡ Err r → x ≡ Err r → last ≡ s → DidMove x last (told_if d g s e u)
+  told_refused h told state = rw h (told, state)
 
-  pub told_accepted : d ≡ Done.Accepted → x ≡ (told_if Done.Accepted g [] e []).told → last ≡ u → DidMove x last (told_if d g s e u)
-  told_accepted h told state =
-      (told ∙ ap (λ (c : Done). (told_if c g s e u).told) (sym h), state ∙ ap (λ (c : Done). left_by c s u) (sym h))
+  pub told_accepted : d ≡ admitted → x ≡ Ok e → last ≡ u → DidMove x last (told_if d g s e u)
+  told_accepted h told state = rw h (told, state)
 
 -- ---- what an action says
 -- an action that is on a channel is one of the graph's
@@ -72,7 +70,7 @@ speaks_channel {g = g} {a = a} {q = q} {m = m} f h =
     (message_says (f.table.communication g a f.known h.action) m (record { 0 = q }) h.word).0
 
 -- the queue is as it was while the run is written
-module _ {t s u : List ℕ} {g q : ℕ} {answer : Done} {run : ProgramGraphRun} (f : Fitting t s g) (l : q < channel_count t)
+module _ {t s u : List ℕ} {g q : ℕ} {answer : Answer ⊤} {run : ProgramGraphRun} (f : Fitting t s g) (l : q < channel_count t)
     (ran : Ran t s g answer run u) where
   queue_stays : queue_part u q ≡ queue_part s q
   queue_stays = ran.queue q (queue_small f.table f.state q l)
@@ -86,7 +84,7 @@ module _ {t s u : List ℕ} {g q : ℕ} {answer : Done} {run : ProgramGraphRun} 
 
 module _ {t s : List ℕ} {g a q : ℕ} (f : Fitting t s g) where
   -- an accepted send has as many values as its channel is wide
-  pub few_values : Speaks t g a Send q → (posts : List ℕ) (word : ℕ) {answer : Done} {message : Values.Message} → answer ≡ Done.Accepted
+  pub few_values : Speaks t g a Send q → (posts : List ℕ) (word : ℕ) {answer : Answer ⊤} {message : Values.Message} → answer ≡ admitted
       → answer ≡ (sent_of (graph_part t g) (run_of s g) a posts word).answer
       → message ≡ (sent_of (graph_part t g) (run_of s g) a posts word).message
       → message.count ≤ message_room
@@ -103,20 +101,11 @@ module _ {t s : List ℕ} {g a q : ℕ} (f : Fitting t s g) where
       )
 
 -- ---- a receive that its channel lets through finds something
-some_stored : (stored : ℕ) (b : Bool) → ltb 0 stored ≡ b → unless b (refused_by 21) Done.Accepted ≡ Done.Accepted → 0 < stored
+some_stored : (stored : ℕ) (b : Bool) → ltb 0 stored ≡ b → unless b (refused_by 21) admitted ≡ admitted → 0 < stored
 unfolding unless
 some_stored stored true e f = ltb-true 0 stored e
 some_stored stored false e f = let z : ◌≡◌ {A = ℕ} 0 1 = cc in absurd (omega arith)
 
-pub received_some : (stored : ℕ) → receive_test stored ≡ Done.Accepted → 0 < stored
+pub received_some : (stored : ℕ) → receive_test stored ≡ admitted → 0 < stored
 unfolding receive_test
 received_some stored h = some_stored stored (ltb 0 stored) refl h
-
--- ---- a plain step has no event
-pub plain_told : {answer d : Done} (g : ℕ) → answer ≡ d
-    → ◌≡◌ {A = Stepped} (record { answer = answer; event = no_event g }) (record { answer = d; event = event_if d g (no_event g) })
-plain_told {answer} {d} g e = ap (λ (a : Done). record { answer = a; event = no_event g }) e ∙ by d
-  where
-    by : (c : Done) → ◌≡◌ {A = Stepped} (record { answer = c; event = no_event g }) (record { answer = c; event = event_if c g (no_event g) })
-    by Done.Accepted = refl
-    by (Done.Refused r) = refl

@@ -1,5 +1,9 @@
 -- Any calls, one after the other, from a fresh state of a table that can be run: the state is one of the table's throughout, and no call
 -- answers 32.
+use Rattle.grammar.specs.declared.values.Val.{Val}
+use Rattle.channel_system.specs.declared.answers.WaitError.TheVariants as WaitError
+use Rattle.std.specs.declared.option.Option.{Option}
+use Rattle.std.specs.Prelude.{Err}
 use Prim.Native.Nat.{ℕ, zero, suc}
 use mathlib.Core.Path.{◌≡◌, refl, sym, subst}
 use mathlib.Core.Bool.{Bool, true, false}
@@ -9,7 +13,7 @@ use lib.Dec.{ltb}
 use Rattle.laws.specs.Ladder.{unless}
 use Rattle.laws.proofs.Ladder.{passed, rung}
 use Rattle.graph_tables.specs.Refusals.{refusal}
-use Rattle.graph_tables.specs.Answers.{done_number}
+use Rattle.graph_tables.specs.Answers.{Answer, answer_number}
 use Rattle.run_steps.specs.Listing.{seek}
 use Rattle.run_steps.specs.declared.inner.listing.Sought.{Sought}
 use Rattle.run_steps.specs.declared.inner.listing.Sought.TheVariants.{Found, Left}
@@ -18,7 +22,6 @@ use Rattle.program_graph.specs.Running.{no_run}
 use Rattle.program_graph.specs.Transitions.{entry_or_end}
 use Rattle.program_graph.proofs.RunLaws.{either_way}
 use Rattle.queues.specs.Queues.{stored_of}
-use Rattle.program_graph.specs.declared.answers.Listed.TheVariants as OnGraph
 use Rattle.system_tables.specs.Words.{graph_count}
 use Rattle.system_tables.specs.Sound.{SystemSound}
 use Rattle.system_tables.specs.Formed.{system_formed}
@@ -34,12 +37,9 @@ use Rattle.channel_system.specs.Told.{waited_number}
 use Rattle.channel_system.specs.Readers.{now_of, length_of, queued_at, queued_of, graph_run_of}
 use Rattle.channel_system.specs.Chains.{Reading, can_wait, is_waiting, possible_transitions, possible_transitions_pg}
 use Rattle.channel_system.specs.Chains.{nosync_possible_transitions_pg, time, program_graph, queue_length, queue_value}
-use Rattle.channel_system.specs.Chains.{Call, transition, wait, read, held_number, entry_number, listed_number, now_number}
-use Rattle.channel_system.specs.Chains.{length_number, queued_number, reading_number, answer_to, state_after, state_after_all}
-use Rattle.channel_system.specs.declared.answers.Length.TheVariants as Length
-use Rattle.channel_system.specs.declared.answers.Queued.{Queued}
-use Rattle.channel_system.specs.declared.answers.GraphRun.{GraphRun}
-use Rattle.channel_system.specs.declared.answers.Waited.TheVariants as Waited
+use Rattle.channel_system.specs.Chains.{Call, transition, wait, read}
+use Rattle.channel_system.specs.Chains.{reading_number, answer_to, state_after, state_after_all}
+use Rattle.channel_system.specs.Readers.{GraphRun}
 use Rattle.channel_system.proofs.FittingLaws.{sound_pass}
 use Rattle.channel_system.proofs.StepCases.{step_cases}
 use Rattle.channel_system.proofs.WaitCases.{wait_cases}
@@ -54,18 +54,18 @@ call_refused t s (wait delta) n = wait_refused t s delta n
 call_refused t s (read r) n = refl
 
 -- ---- an entry of a listing is no refusal
-sought_known : (x : Sought) → entry_number (entry_or_end x) ≡ 32 → ⊥
+sought_known : (x : Sought) → answer_number (entry_or_end x) ≡ 32 → ⊥
 sought_known (Found e) h = omega arith
 sought_known (Left k) h = omega arith
 
-entry_known : (ps : List Possible) (k : ℕ) → listed_number (entry_at ps k) ≡ 32 → ⊥
+entry_known : (ps : List Possible) (k : ℕ) → answer_number (entry_at ps k) ≡ 32 → ⊥
 entry_known [] k h = omega arith
 entry_known (p ∷ ps) zero h = omega arith
 entry_known (p ∷ ps) (suc k) h = entry_known ps k h
 
-queued_known : (queue : List ℕ) (k : ℕ) → queued_number (queued_at queue k) ≡ 32 → ⊥
+queued_known : (queue : List ℕ) (k : ℕ) → answer_number (queued_at queue k) ≡ 32 → ⊥
 queued_known queue k =
-    either_way (λ (x : Queued). queued_number x ≡ 32 → ⊥) (ltb k (stored_of queue)) _ _ (λ f e. omega arith) (λ f e. omega arith)
+    either_way (λ (x : Answer (Option Val)). answer_number x ≡ 32 → ⊥) (ltb k (stored_of queue)) _ _ (λ f e. omega arith) (λ f e. omega arith)
 
 -- a number that neither side of a rung has
 neither : {A : Type 0} (number : A → ℕ) (b : Bool) (x rest : A) → (number x ≡ 32 → ⊥) → (number rest ≡ 32 → ⊥)
@@ -93,7 +93,7 @@ module _ (t : List ℕ) (formed : system_formed t false ≡ true) where
 
     pub wait_inner : (delta : ℕ) → wait_of t s delta ≡ passed_of t s delta
     unfolding wait_of
-    wait_inner delta = sym (passed (refused_wait (Waited.Refused (refusal 32)) s) fits refl)
+    wait_inner delta = sym (passed (refused_wait (Err (WaitError.Refused (refusal 32))) s) fits refl)
 
     -- Every call leaves a state of the table, whatever it answers.
     pub call_sound : (call : Call) → StateSound t (state_after t s call)
@@ -105,33 +105,33 @@ module _ (t : List ℕ) (formed : system_formed t false ≡ true) where
 
     reading_known : (r : Reading) → reading_number t s r ≡ 32 → ⊥
     unfolding can_wait_of is_waiting_of possible_of possible_on nosync_on now_of graph_run_of length_of queued_of
-    reading_known (can_wait delta) = past_first held_number _ _ fits (λ e. omega arith)
-    reading_known is_waiting = past_first held_number _ _ fits (λ e. omega arith)
-    reading_known (possible_transitions k) = past_first listed_number _ _ fits (entry_known (listed_below t s (graph_count t)) k)
+    reading_known (can_wait delta) = past_first answer_number _ _ fits (λ e. omega arith)
+    reading_known is_waiting = past_first answer_number _ _ fits (λ e. omega arith)
+    reading_known (possible_transitions k) = past_first answer_number _ _ fits (entry_known (listed_below t s (graph_count t)) k)
     reading_known (possible_transitions_pg g k) =
-        past_first entry_number _ _ fits
-        (neither entry_number _ (OnGraph.Refused (refusal 17)) _ (λ e. omega arith) (sought_known (seek (listed_on t s g) k)))
+        past_first answer_number _ _ fits
+        (neither answer_number _ (Err (refusal 17)) _ (λ e. omega arith) (sought_known (seek (listed_on t s g) k)))
     reading_known (nosync_possible_transitions_pg g k) =
-        past_first entry_number _ _ fits
-        (neither entry_number _ (OnGraph.Refused (refusal 17)) _ (λ e. omega arith)
-        (neither entry_number _ (OnGraph.Refused (refusal 16)) _ (λ e. omega arith) (sought_known (seek (listed_on t s g) k))))
-    reading_known time = past_first now_number _ _ fits (λ e. omega arith)
+        past_first answer_number _ _ fits
+        (neither answer_number _ (Err (refusal 17)) _ (λ e. omega arith)
+        (neither answer_number _ (Err (refusal 16)) _ (λ e. omega arith) (sought_known (seek (listed_on t s g) k))))
+    reading_known time = past_first answer_number _ _ fits (λ e. omega arith)
     reading_known (program_graph g) =
-        past_first (λ (x : GraphRun). done_number x.answer) _ _ fits
-        (neither (λ (x : GraphRun). done_number x.answer) _ (record { answer = refused_by 17; run = no_run }) _ (λ e. omega arith)
+        past_first (λ (x : GraphRun). answer_number x.answer) _ _ fits
+        (neither (λ (x : GraphRun). answer_number x.answer) _ (record { answer = refused_by 17; run = no_run }) _ (λ e. omega arith)
         (λ e. omega arith))
     reading_known (queue_length q) =
-        past_first length_number _ _ fits
-        (neither length_number _ (Length.Refused (refusal 30)) _ (λ e. omega arith) (λ e. omega arith))
+        past_first answer_number _ _ fits
+        (neither answer_number _ (Err (refusal 30)) _ (λ e. omega arith) (λ e. omega arith))
     reading_known (queue_value q k) =
-        past_first queued_number _ _ fits
-        (neither queued_number _ (Queued.Refused (refusal 30)) _ (λ e. omega arith) (queued_known (queue_part s q) k))
+        past_first answer_number _ _ fits
+        (neither answer_number _ (Err (refusal 30)) _ (λ e. omega arith) (queued_known (queue_part s q) k))
 
     -- No call answers 32.
     pub call_known : (call : Call) → answer_to t s call ≡ 32 → ⊥
     call_known (transition g o a posts word) =
-        subst (λ (m : Moved). done_number m.told.answer ≡ 32 → ⊥) (sym (step_inner g o a posts word))
-        (step_cases t s g a posts word (λ (m : Moved). done_number m.told.answer ≡ 32 → ⊥)
+        subst (λ (m : Moved). answer_number m.told.answer ≡ 32 → ⊥) (sym (step_inner g o a posts word))
+        (step_cases t s g a posts word (λ (m : Moved). answer_number m.told.answer ≡ 32 → ⊥)
         (record {
           refusal = λ r n. n;
           plain = λ f e. omega arith;

@@ -1,5 +1,6 @@
 -- From a fresh state, after any calls, the time is the sum of the accepted waits, and every clock of every graph is the sum of the
 -- accepted waits since the last accepted step that resets it.
+use Rattle.std.specs.Prelude.{⊤}
 use Prim.Native.Nat.{ℕ, ◌+◌, ◌<◌}
 use mathlib.Core.Path.{◌≡◌, refl, sym, ap, subst, ◌∙◌}
 use mathlib.Core.Bool.{Bool, true, false, cond}
@@ -12,15 +13,11 @@ use borrow.Author.Tests.{eq-eqb, ne_eqb}
 use Rattle.laws.specs.Below.{◌and◌}
 use Rattle.laws.proofs.BelowLaws.{and_no, and_false}
 use Rattle.graph_tables.specs.Refusals.{number_of}
-use Rattle.graph_tables.specs.Answers.{done_number}
+use Rattle.graph_tables.specs.Answers.{Answer, admitted, answer_number}
 use Rattle.graph_tables.specs.Words.{clock_count}
-use Rattle.graph_tables.specs.declared.answers.Done.{Done}
 use Rattle.graph_tables.proofs.NumberLaws.{above_ok}
 use Rattle.program_graph.specs.declared.record.ProgramGraphRun.{ProgramGraphRun}
-use Rattle.program_graph.specs.declared.answers.Stepped.{Stepped}
-use Rattle.program_graph.specs.declared.answers.Sent.{Sent}
-use Rattle.program_graph.specs.declared.answers.Received.{Received}
-use Rattle.program_graph.specs.declared.answers.Waited.{Waited}
+use Rattle.program_graph.specs.Outcomes.{RunOutcome, Sent}
 use Rattle.program_graph.specs.Inner.{run_at}
 use Rattle.program_graph.specs.Running.{later}
 use Rattle.program_graph.specs.RunChains as graph
@@ -93,33 +90,33 @@ module _ (t : List ℕ) (formed : system_formed t false ≡ true) (s : List ℕ)
     x = clock s g c
 
     module _ (a : ℕ) (posts : List ℕ) (word : ℕ) where
-      step_clock : (stepped_on t s g a posts word).answer ≡ Done.Accepted
+      step_clock : (stepped_on t s g a posts word).answer ≡ admitted
           → get_or (stepped_on t s g a posts word).run.times c 0 ≡ cond (graph.resets_clock G a c) 0 x
       step_clock e =
           subst
-          (λ (y : Stepped). get_or y.run.times c 0 ≡ cond (graph.is_accepted y.answer) (cond (graph.resets_clock G a c) 0 x) x)
+          (λ (y : RunOutcome). get_or y.run.times c 0 ≡ cond (graph.is_accepted y.answer) (cond (graph.resets_clock G a c) 0 x) x)
           (step_as_lem t formed s h g l a (locations_of posts) word)
           (graphs.call_clock G (run_of s g) (graph.transition a (locations_of posts) word) c (run_sized t formed s h g l) k)
-          ∙ ap (λ (d : Done). cond (graph.is_accepted d) (cond (graph.resets_clock G a c) 0 x) x) e
+          ∙ ap (λ (d : Answer ⊤). cond (graph.is_accepted d) (cond (graph.resets_clock G a c) 0 x) x) e
 
-      send_clock : (sent_on t s g a posts word).answer ≡ Done.Accepted → get_or (sent_on t s g a posts word).run.times c 0 ≡ x
+      send_clock : (sent_on t s g a posts word).answer ≡ admitted → get_or (sent_on t s g a posts word).run.times c 0 ≡ x
       send_clock e =
           subst (λ (y : Sent). get_or y.run.times c 0 ≡ cond (graph.is_accepted y.answer) x x)
           (send_as t formed s h g l a (locations_of posts) word)
           (graphs.call_clock G (run_of s g) (graph.send a (locations_of posts) word) c (run_sized t formed s h g l) k)
-          ∙ ap (λ (d : Done). cond (graph.is_accepted d) x x) e
+          ∙ ap (λ (d : Answer ⊤). cond (graph.is_accepted d) x x) e
 
-      receive_clock : (q : ℕ) → (received_on t s g a posts word q).answer ≡ Done.Accepted
+      receive_clock : (q : ℕ) → (received_on t s g a posts word q).answer ≡ admitted
           → get_or (received_on t s g a posts word q).run.times c 0 ≡ x
       receive_clock q e =
-          subst (λ (y : Received). get_or y.run.times c 0 ≡ cond (graph.is_accepted y.answer) x x)
+          subst (λ (y : RunOutcome). get_or y.run.times c 0 ≡ cond (graph.is_accepted y.answer) x x)
           (receive_as t formed s h g l a (locations_of posts) (oldest_in t s q))
           (graphs.call_clock G (run_of s g) (graph.receive a (locations_of posts) (oldest_in t s q)) c (run_sized t formed s h g l) k)
-          ∙ ap (λ (d : Done). cond (graph.is_accepted d) x x) e
+          ∙ ap (λ (d : Answer ⊤). cond (graph.is_accepted d) x x) e
 
     wait_clock : (delta : ℕ) → WaitFound t s delta → get_or (later (run_of s g) delta).times c 0 ≡ x + delta
     wait_clock delta f =
-        subst (λ (y : Waited). get_or y.run.times c 0 ≡ cond (graph.is_accepted y.answer) (x + delta) x)
+        subst (λ (y : RunOutcome). get_or y.run.times c 0 ≡ cond (graph.is_accepted y.answer) (x + delta) x)
         (wait_as t formed s h g l delta (graph_fits sound h f g l) (f.holds g l))
         (graphs.call_clock G (run_of s g) (graph.wait delta) c (run_sized t formed s h g l) k)
 
@@ -178,7 +175,7 @@ module _ (t : List ℕ) (formed : system_formed t false ≡ true) (s : List ℕ)
     call_clock (transition f o a posts word) =
         let P : Moved → Type 0 =
         λ m. clock m.state g c
-        ≡ cond (is_accepted (done_number m.told.answer)) (cond (resets f a g c) 0 (clock s g c + 0)) (clock s g c) in
+        ≡ cond (is_accepted (answer_number m.told.answer)) (cond (resets f a g c) 0 (clock s g c + 0)) (clock s g c) in
         subst P (sym (step_inner t formed s h f o a posts word))
         (step_cases t s f a posts word P
         (record {

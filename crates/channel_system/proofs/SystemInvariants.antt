@@ -7,10 +7,7 @@ use mathlib.Core.List.{List}
 use native.Mathlib.Decide.{ℕ_discrete}
 use native.Mathlib.Omega.{arith}
 use Rattle.program_graph.specs.declared.record.ProgramGraphRun.{ProgramGraphRun}
-use Rattle.program_graph.specs.declared.answers.Stepped.{Stepped}
-use Rattle.program_graph.specs.declared.answers.Sent.{Sent}
-use Rattle.program_graph.specs.declared.answers.Received.{Received}
-use Rattle.program_graph.specs.declared.answers.Waited.{Waited}
+use Rattle.program_graph.specs.Outcomes.{RunOutcome, Sent}
 use Rattle.program_graph.specs.Facts.{Holding}
 use Rattle.program_graph.specs.Inner.{run_at}
 use Rattle.program_graph.specs.Running.{later}
@@ -57,7 +54,7 @@ module _ (t : List ℕ) (formed : system_formed t false ≡ true) (s : List ℕ)
   module _ (g a : ℕ) (posts : List ℕ) (word : ℕ) (l : g < graph_count t) where
     step_holds : Holding (graph_part t g) (stepped_on t s g a posts word).run
     step_holds =
-        subst (λ (x : Stepped). Holding (graph_part t g) x.run) (step_as_lem t formed s h g l a (locations_of posts) word)
+        subst (λ (x : RunOutcome). Holding (graph_part t g) x.run) (step_as_lem t formed s h g l a (locations_of posts) word)
         (call_holds (graph_part t g) (run_of s g) (graph.transition a (locations_of posts) word) (run_sized t formed s h g l) (all g l))
 
     send_holds : Holding (graph_part t g) (sent_on t s g a posts word).run
@@ -67,7 +64,7 @@ module _ (t : List ℕ) (formed : system_formed t false ≡ true) (s : List ℕ)
 
     receive_holds : (q : ℕ) → Holding (graph_part t g) (received_on t s g a posts word q).run
     receive_holds q =
-        subst (λ (x : Received). Holding (graph_part t g) x.run)
+        subst (λ (x : RunOutcome). Holding (graph_part t g) x.run)
         (receive_as t formed s h g l a (locations_of posts) (oldest_in t s q))
         (call_holds (graph_part t g) (run_of s g) (graph.receive a (locations_of posts) (oldest_in t s q)) (run_sized t formed s h g l)
         (all g l))
@@ -76,13 +73,13 @@ module _ (t : List ℕ) (formed : system_formed t false ≡ true) (s : List ℕ)
   module _ (delta : ℕ) (f : WaitFound t s delta) (g : ℕ) (l : g < graph_count t) where
     later_holds : Holding (graph_part t g) (later (run_of s g) delta)
     later_holds =
-        subst (λ (x : Waited). Holding (graph_part t g) x.run) (wait_as t formed s h g l delta (graph_fits sound h f g l) (f.holds g l))
+        subst (λ (x : RunOutcome). Holding (graph_part t g) x.run) (wait_as t formed s h g l delta (graph_fits sound h f g l) (f.holds g l))
         (call_holds (graph_part t g) (run_of s g) (graph.wait delta) (run_sized t formed s h g l) (all g l))
 
     throughout : (d : ℕ) → d ≤ delta → Holding (graph_part t g) (later (run_of s g) d)
     throughout =
         wait_holds_throughout (graph_part t g) (run_of s g) delta
-        (is_ok (ap (λ (x : Waited). x.answer) (wait_as t formed s h g l delta (graph_fits sound h f g l) (f.holds g l))))
+        (is_ok (ap (λ (x : RunOutcome). x.answer) (wait_as t formed s h g l delta (graph_fits sound h f g l) (f.holds g l))))
         (run_sized t formed s h g l) (all g l)
 
   call_holds_all : (call : Call) → AllHold t (state_after t s call)

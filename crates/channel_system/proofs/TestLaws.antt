@@ -1,4 +1,5 @@
 -- What the test of a channel answers, exactly when: a number for each reason.
+use Rattle.graph_tables.specs.Answers.{admitted}
 use Prim.Native.Nat.{ℕ, ◌+◌, ◌<◌, ◌≤◌}
 use mathlib.Core.Path.{◌≡◌, refl, sym, ap, subst, ◌∙◌}
 use mathlib.Core.Bool.{Bool, true, false, not}
@@ -9,9 +10,8 @@ use borrow.Author.Tests.{not-true, not-false}
 use lib.Dec.{eqb, leb, ltb}
 use Rattle.laws.specs.Ladder.{unless}
 use Rattle.laws.proofs.Tests.{never}
-use Rattle.graph_tables.specs.declared.answers.Done.TheVariants.{Accepted}
 use Rattle.graph_checks.specs.Checks.{refused_by}
-use Rattle.program_graph.specs.Facts.{Ok}
+use Rattle.program_graph.specs.Facts.{Accepted}
 use Rattle.program_graph.proofs.AnswerLaws.{accepted_ok, not_ok}
 use Rattle.program_graph.proofs.RunReady.{through}
 use Rattle.queues.specs.Layout.{slot_room}
@@ -75,28 +75,28 @@ module _ (stored width : ℕ) where
   pub send_20 : (c : ChannelCapacity) → Answers 20 (send_test stored width c) ↔ Reached stored c
   unfolding send_test
   send_20 (Bounded n) =
-      through (rung_here (Answers 20) (ltb stored n) (refused_by 20) Accepted refl (λ e. omega arith))
+      through (rung_here (Answers 20) (ltb stored n) (refused_by 20) admitted refl (λ e. omega arith))
       (through (λ e. ltb-false _ _ e, λ l. le-ltb stored n l) (reached_so n stored))
   send_20 Unbounded =
-      never_so (rung_none (Answers 20) _ (refused_by 27) Accepted (λ e. omega arith) (λ e. omega arith))
+      never_so (rung_none (Answers 20) _ (refused_by 27) admitted (λ e. omega arith) (λ e. omega arith))
       (λ r. other_sort (λ x. omega arith) r.bounded)
   send_20 Sink = never_so (λ e. omega arith) (λ r. other_sort (λ x. omega arith) r.bounded)
 
   pub send_27 : (c : ChannelCapacity) → Answers 27 (send_test stored width c) ↔ Crowded stored width c
   unfolding send_test
   send_27 (Bounded n) =
-      never_so (rung_none (Answers 27) _ (refused_by 20) Accepted (λ e. omega arith) (λ e. omega arith))
+      never_so (rung_none (Answers 27) _ (refused_by 20) admitted (λ e. omega arith) (λ e. omega arith))
       (λ r. other_sort (λ x. omega arith) r.unbounded)
   send_27 Unbounded =
-      through (rung_here (Answers 27) (leb (stored + slots_for width) slot_room) (refused_by 27) Accepted refl (λ e. omega arith))
+      through (rung_here (Answers 27) (leb (stored + slots_for width) slot_room) (refused_by 27) admitted refl (λ e. omega arith))
       (λ e. record { unbounded = refl; over = leb-false _ _ e }, λ r. lt-leb (stored + slots_for width) slot_room r.over)
   send_27 Sink = never_so (λ e. omega arith) (λ r. other_sort (λ x. omega arith) r.unbounded)
 
   -- it answers nothing else
   pub send_none : (n : ℕ) → (n ≡ 0 → ⊥) → (n ≡ 20 → ⊥) → (n ≡ 27 → ⊥) → (c : ChannelCapacity) → Answers n (send_test stored width c) → ⊥
   unfolding send_test
-  send_none n x y z (Bounded k) = rung_none (Answers n) _ (refused_by 20) Accepted (λ e. y (sym e)) (λ e. x (sym e))
-  send_none n x y z Unbounded = rung_none (Answers n) _ (refused_by 27) Accepted (λ e. z (sym e)) (λ e. x (sym e))
+  send_none n x y z (Bounded k) = rung_none (Answers n) _ (refused_by 20) admitted (λ e. y (sym e)) (λ e. x (sym e))
+  send_none n x y z Unbounded = rung_none (Answers n) _ (refused_by 27) admitted (λ e. z (sym e)) (λ e. x (sym e))
   send_none n x y z Sink = λ e. x (sym e)
 
 -- ---- a receive
@@ -104,12 +104,12 @@ module _ (stored : ℕ) where
   pub receive_21 : Answers 21 (receive_test stored) ↔ (stored ≡ 0)
   unfolding receive_test
   receive_21 =
-      through (rung_here (Answers 21) (ltb 0 stored) (refused_by 21) Accepted refl (λ e. omega arith))
+      through (rung_here (Answers 21) (ltb 0 stored) (refused_by 21) admitted refl (λ e. omega arith))
       (λ e. let l : stored ≤ 0 = ltb-false 0 stored e in omega arith, λ e. le-ltb 0 stored (omega arith))
 
   pub receive_none : (n : ℕ) → (n ≡ 0 → ⊥) → (n ≡ 21 → ⊥) → Answers n (receive_test stored) → ⊥
   unfolding receive_test
-  receive_none n x y = rung_none (Answers n) _ (refused_by 21) Accepted (λ e. y (sym e)) (λ e. x (sym e))
+  receive_none n x y = rung_none (Answers n) _ (refused_by 21) admitted (λ e. y (sym e)) (λ e. x (sym e))
 
   -- ---- a probe of an empty queue
   pub empty_24 : (c : ChannelCapacity) → Answers 24 (empty_test stored c) ↔ Handshake c
@@ -117,7 +117,7 @@ module _ (stored : ℕ) where
   empty_24 c =
       through
       (rung_here (Answers 24) (not (handshake c)) (refused_by 24) _ refl
-      (rung_none (Answers 24) _ (refused_by 22) Accepted (λ e. omega arith) (λ e. omega arith)))
+      (rung_none (Answers 24) _ (refused_by 22) admitted (λ e. omega arith) (λ e. omega arith)))
       (shut_so c)
 
   pub empty_22 : (c : ChannelCapacity) → Answers 22 (empty_test stored c) ↔ ((Handshake c → ⊥) × (0 < stored))
@@ -125,7 +125,7 @@ module _ (stored : ℕ) where
   empty_22 c =
       through
       (rung_on (Answers 22) (not (handshake c)) (refused_by 24) _ (λ e. omega arith)
-      (rung_here (Answers 22) (eqb stored 0) (refused_by 22) Accepted refl (λ e. omega arith)))
+      (rung_here (Answers 22) (eqb stored 0) (refused_by 22) admitted refl (λ e. omega arith)))
       (both_so (open_so c)
       (λ e. let n : stored ≡ 0 → ⊥ = eqb-false stored 0 e in omega arith, λ l. ne_eqb stored 0 (λ e. omega arith)))
 
@@ -133,23 +133,23 @@ module _ (stored : ℕ) where
   unfolding empty_test
   empty_none n x y z c =
       rung_none (Answers n) _ (refused_by 24) _ (λ e. y (sym e))
-      (rung_none (Answers n) _ (refused_by 22) Accepted (λ e. z (sym e)) (λ e. x (sym e)))
+      (rung_none (Answers n) _ (refused_by 22) admitted (λ e. z (sym e)) (λ e. x (sym e)))
 
   -- ---- a probe of a full one
   reached_none : (n : ℕ) → (n ≡ 0 → ⊥) → (n ≡ 23 → ⊥) → (n ≡ 25 → ⊥) → (c : ChannelCapacity) → Answers n (reached stored c) → ⊥
-  reached_none n x y z (Bounded k) = rung_none (Answers n) _ (refused_by 23) Accepted (λ e. y (sym e)) (λ e. x (sym e))
+  reached_none n x y z (Bounded k) = rung_none (Answers n) _ (refused_by 23) admitted (λ e. y (sym e)) (λ e. x (sym e))
   reached_none n x y z Unbounded = λ e. z (sym e)
   reached_none n x y z Sink = λ e. y (sym e)
 
   reached_25 : (c : ChannelCapacity) → Answers 25 (reached stored c) ↔ (c ≡ Unbounded)
   reached_25 (Bounded n) =
-      never_so (rung_none (Answers 25) _ (refused_by 23) Accepted (λ e. omega arith) (λ e. omega arith)) (other_sort (λ x. omega arith))
+      never_so (rung_none (Answers 25) _ (refused_by 23) admitted (λ e. omega arith) (λ e. omega arith)) (other_sort (λ x. omega arith))
   reached_25 Unbounded = (λ e. refl, λ e. refl)
   reached_25 Sink = never_so (λ e. omega arith) (other_sort (λ x. omega arith))
 
   reached_23 : (c : ChannelCapacity) → Answers 23 (reached stored c) ↔ NotFull stored c
   reached_23 (Bounded n) =
-      through (rung_here (Answers 23) (leb n stored) (refused_by 23) Accepted refl (λ e. omega arith))
+      through (rung_here (Answers 23) (leb n stored) (refused_by 23) admitted refl (λ e. omega arith))
       (through (λ e. leb-false _ _ e, λ l. lt-leb n stored l)
       (λ l. inr ((below_so n stored).0 l), ⊎_elim (λ e. absurd (other_sort (λ x. omega arith) e)) (λ b. (below_so n stored).1 b)))
   reached_23 Unbounded =
@@ -193,11 +193,11 @@ module _ (stored : ℕ) where
 
 -- ---- a test that passes
 -- one rung, and no other
-one_rung_ok : (b : Bool) (n : ℕ) → Ok (unless b (refused_by n) Accepted) ↔ (b ≡ true)
-one_rung_ok b n = rung_last Ok b (refused_by n) Accepted not_ok accepted_ok
+one_rung_ok : (b : Bool) (n : ℕ) → Accepted (unless b (refused_by n) admitted) ↔ (b ≡ true)
+one_rung_ok b n = rung_last Accepted b (refused_by n) admitted not_ok accepted_ok
 
 module _ (stored width : ℕ) where
-  send_passes : (c : ChannelCapacity) → Ok (send_test stored width c) ↔ Takes Send stored width c
+  send_passes : (c : ChannelCapacity) → Accepted (send_test stored width c) ↔ Takes Send stored width c
   unfolding send_test
   send_passes (Bounded n) =
       through (one_rung_ok (ltb stored n) 20)
@@ -222,22 +222,22 @@ module _ (stored width : ℕ) where
       no_sink e = other_sort (λ x. omega arith) e
   send_passes Sink = (λ k. inr (inr refl), λ k. accepted_ok)
 
-  reached_passes : (c : ChannelCapacity) → Ok (reached stored c) ↔ Reached stored c
+  reached_passes : (c : ChannelCapacity) → Accepted (reached stored c) ↔ Reached stored c
   reached_passes (Bounded n) =
       through (one_rung_ok (leb n stored) 23) (through (λ e. leb-true _ _ e, λ l. le-leb n stored l) (reached_so n stored))
   reached_passes Unbounded = never_so not_ok (λ r. other_sort (λ x. omega arith) r.bounded)
   reached_passes Sink = never_so not_ok (λ r. other_sort (λ x. omega arith) r.bounded)
 
   -- The test passes exactly when the channel takes the message.
-  pub test_passes : (m : Message) (c : ChannelCapacity) → Ok (step_test m stored width c) ↔ Takes m stored width c
+  pub test_passes : (m : Message) (c : ChannelCapacity) → Accepted (step_test m stored width c) ↔ Takes m stored width c
   unfolding receive_test empty_test full_test
   test_passes Send c = send_passes c
   test_passes Receive c = through (one_rung_ok (ltb 0 stored) 21) (λ e. ltb-true _ _ e, λ l. lt-ltb 0 stored l)
   test_passes ProbeEmptyQueue c =
-      through (rung_on Ok (not (handshake c)) (refused_by 24) _ not_ok (one_rung_ok (eqb stored 0) 22))
+      through (rung_on Accepted (not (handshake c)) (refused_by 24) _ not_ok (one_rung_ok (eqb stored 0) 22))
       (both_so (open_so c) (λ e. eqb-true _ _ e, λ e. eq-eqb stored 0 e))
   test_passes ProbeFullQueue c =
-      through (rung_on Ok (not (handshake c)) (refused_by 24) (reached stored c) not_ok (reached_passes c)) (both_so (open_so c) same)
+      through (rung_on Accepted (not (handshake c)) (refused_by 24) (reached stored c) not_ok (reached_passes c)) (both_so (open_so c) same)
     where
       same : Reached stored c ↔ Reached stored c
       same = (λ r. r, λ r. r)

@@ -1,4 +1,6 @@
 -- A wait of a system by cases: it is refused and leaves the state, or every clock, and the time, goes on by the delta.
+use Rattle.channel_system.specs.declared.answers.WaitError.TheVariants as WaitError
+use Rattle.std.specs.Prelude.{Ok, Err}
 use Prim.Native.Nat.{ℕ, ◌+◌, ◌<◌}
 use mathlib.Core.Path.{◌≡◌}
 use mathlib.Core.Bool.{true}
@@ -15,7 +17,6 @@ use Rattle.system_state.specs.Fits.{StateSound}
 use Rattle.channel_system.specs.Steps.{run_of}
 use Rattle.run_steps.specs.Lowest.{lowest}
 use Rattle.channel_system.specs.Waits.{clocks_fit, graph_holds, all_fit, later_state, Passed, refused_wait, passed_of}
-use Rattle.channel_system.specs.declared.answers.Waited.TheVariants as Waited
 use Rattle.channel_system.proofs.LaterLaws.{clock_fits_lem, later_sound, later_time_lem, later_run, later_queue}
 
 -- what an accepted wait found
@@ -47,15 +48,15 @@ module _ {t s : List ℕ} (sound : SystemSound t) (h : StateSound t s) {delta : 
 
 -- accepted, with this state
 abbrev pub passed_with : List ℕ → Passed
-passed_with u = record { answer = Waited.Accepted; state = u }
+passed_with u = record { answer = Ok tt; state = u }
 
 -- something that holds of both refusals, and of the state that an accepted wait leaves, is so of the wait
 pub wait_cases : (P : Passed → Type 0) (t s : List ℕ) (delta : ℕ)
-    → P (refused_wait (Waited.Refused (refusal 26)) s) → ((g : ℕ) → P (refused_wait (Waited.Invariant (record { 0 = g })) s))
+    → P (refused_wait (Err (WaitError.Refused (refusal 26))) s) → ((g : ℕ) → P (refused_wait (Err (WaitError.Invariant (record { 0 = g }))) s))
     → (WaitFound t s delta → P (passed_with (later_state t s delta))) → P (passed_of t s delta)
 unfolding passed_of graph_holds
 wait_cases P t s delta past objects all =
-    rung P _ (refused_wait (Waited.Refused (refusal 26)) s) _ past
-    (λ f. rung P _ (refused_wait (Waited.Invariant (record { 0 = lowest (graph_count t) (graph_holds t s delta) })) s) _
+    rung P _ (refused_wait (Err (WaitError.Refused (refusal 26))) s) _ past
+    (λ f. rung P _ (refused_wait (Err (WaitError.Invariant (record { 0 = lowest (graph_count t) (graph_holds t s delta) }))) s) _
     (objects (lowest (graph_count t) (graph_holds t s delta)))
     (λ k. all (record { all = f; holds = λ g l. all_at (graph_holds t s delta) (graph_count t) g k l })))

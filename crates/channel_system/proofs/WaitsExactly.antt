@@ -1,4 +1,7 @@
 -- When a wait of a system is accepted, and when it answers each number; when it can wait, and when it is waiting: exactly when.
+use Rattle.channel_system.specs.declared.answers.WaitError.{WaitError}
+use Rattle.std.specs.declared.result.Result.{Result}
+use Rattle.std.specs.Prelude.{Ok, Err, ⊤}
 use Prim.Native.Nat.{ℕ, zero, suc, ◌+◌, ◌<◌, ◌≤◌}
 use mathlib.Core.Path.{◌≡◌, refl, sym, ap, subst, ◌∙◌}
 use mathlib.Core.Bool.{Bool, true, false, cond}
@@ -22,7 +25,6 @@ use Rattle.run_steps.proofs.AnyLaws.{any_some, any_found}
 use Rattle.run_steps.proofs.StepLaws.{clock_fits_lem, fits_at}
 use Rattle.program_graph.specs.Running as graph
 use Rattle.program_graph.specs.Running.{waits_on}
-use Rattle.program_graph.specs.declared.answers.Held.{Held}
 use Rattle.program_graph.proofs.RunLaws.{same_processes, same_clocks}
 use Rattle.program_graph.proofs.RunReady.{invariant_at, invariants_from, through}
 use Rattle.program_graph.proofs.WaitingExactly.{waiting_exactly}
@@ -35,7 +37,6 @@ use Rattle.run_steps.specs.Lowest.{lowest}
 use Rattle.channel_system.specs.Waits.{clocks_fit, graph_holds, all_fit, Passed, refused_wait, passed_of, wait_of, can_wait_of}
 use Rattle.channel_system.specs.Waits.{later_state, wait_open, graph_waits, system_waits, is_waiting_of}
 use Rattle.channel_system.specs.Waiting.{InTime, ClockLate, TooLate, HoldsAfter, Lowest, SomeAwaited}
-use Rattle.channel_system.specs.declared.answers.Waited.{Waited}
 use Rattle.channel_system.proofs.RungLaws.{rung_on, rung_here, rung_last, rung_none, both_so, not_so, all_missing}
 
 -- ---- the lowest number at which a test fails
@@ -135,31 +136,31 @@ module _ (t s : List ℕ) (delta : ℕ) where
   )
 
 -- ---- answers that are not the same
-abbrev number_in : Waited → ℕ
-number_in Waited.Accepted = 0
-number_in (Waited.Invariant g) = 9
-number_in (Waited.Refused r) = number_of r
+abbrev number_in : Result ⊤ WaitError → ℕ
+number_in (Ok _) = 0
+number_in (Err (WaitError.Invariant g)) = 9
+number_in (Err (WaitError.Refused r)) = number_of r
 
-abbrev graph_in : Waited → ℕ
-graph_in Waited.Accepted = 0
-graph_in (Waited.Invariant g) = g.0
-graph_in (Waited.Refused r) = 0
+abbrev graph_in : Result ⊤ WaitError → ℕ
+graph_in (Ok _) = 0
+graph_in (Err (WaitError.Invariant g)) = g.0
+graph_in (Err (WaitError.Refused r)) = 0
 
-other : {w v : Waited} → (number_in w ≡ number_in v → ⊥) → w ≡ v → ⊥
+other : {w v : Result ⊤ WaitError} → (number_in w ≡ number_in v → ⊥) → w ≡ v → ⊥
 other f e = f (ap number_in e)
 
 -- ---- a wait
 module _ (t s : List ℕ) (delta : ℕ) where
-  abbrev Told : Waited → Passed → Type 0
+  abbrev Told : Result ⊤ WaitError → Passed → Type 0
   Told w x = x.answer ≡ w
 
   -- A wait answers 26 exactly when the time or a clock of some graph would pass the last time.
-  pub wait_26 : ((passed_of t s delta).answer ≡ Waited.Refused (refusal 26)) ↔ TooLate t s delta
+  pub wait_26 : ((passed_of t s delta).answer ≡ Err (WaitError.Refused (refusal 26))) ↔ TooLate t s delta
   unfolding passed_of
   wait_26 =
       through
-      (rung_here (Told (Waited.Refused (refusal 26))) (all_fit t s delta) (refused_wait (Waited.Refused (refusal 26)) s) _ refl
-      (rung_none (Told (Waited.Refused (refusal 26))) (all_below (graph_count t) (graph_holds t s delta)) (refused_wait _ s) _
+      (rung_here (Told (Err (WaitError.Refused (refusal 26)))) (all_fit t s delta) (refused_wait (Err (WaitError.Refused (refusal 26))) s) _ refl
+      (rung_none (Told (Err (WaitError.Refused (refusal 26)))) (all_below (graph_count t) (graph_holds t s delta)) (refused_wait _ s) _
       (other (λ e. omega arith)) (other (λ e. omega arith))))
       (late_so t s delta)
 
@@ -199,20 +200,20 @@ module _ (t s : List ℕ) (delta : ℕ) where
 
   -- what is answered where the time and the clocks may go on
   objects_so : (g : ℕ) (b : Bool) (k : ℕ) (u v : List ℕ)
-      → ((unless b (refused_wait (Waited.Invariant (record { 0 = k })) u) (record { answer = Waited.Accepted; state = v })).answer
-      ≡ Waited.Invariant (record { 0 = g }))
+      → ((unless b (refused_wait (Err (WaitError.Invariant (record { 0 = k }))) u) (record { answer = Ok tt; state = v })).answer
+      ≡ Err (WaitError.Invariant (record { 0 = g })))
       ↔ ((b ≡ false) × (k ≡ g))
   unfolding unless
   objects_so g true k u v = (λ e. absurd (other (λ x. omega arith) e), λ p. never (sym p.0))
-  objects_so g false k u v = (λ e. (refl, ap graph_in e), λ p. ap (λ (n : ℕ). Waited.Invariant (record { 0 = n })) p.1)
+  objects_so g false k u v = (λ e. (refl, ap graph_in e), λ p. ap (λ (n : ℕ). Err (WaitError.Invariant (record { 0 = n }))) p.1)
 
   -- It answers 9 with graph g exactly when neither would, and graph g is the lowest whose invariants do not hold at the end.
   pub wait_9 : (g : ℕ)
-      → ((passed_of t s delta).answer ≡ Waited.Invariant (record { 0 = g })) ↔ (InTime t s delta × Lowest t s delta g)
+      → ((passed_of t s delta).answer ≡ Err (WaitError.Invariant (record { 0 = g }))) ↔ (InTime t s delta × Lowest t s delta g)
   unfolding passed_of
   wait_9 g =
       through
-      (rung_on (Told (Waited.Invariant (record { 0 = g }))) (all_fit t s delta) (refused_wait (Waited.Refused (refusal 26)) s) _
+      (rung_on (Told (Err (WaitError.Invariant (record { 0 = g })))) (all_fit t s delta) (refused_wait (Err (WaitError.Refused (refusal 26))) s) _
       (other (λ e. omega arith))
       (through
       (objects_so g (all_below (graph_count t) (graph_holds t s delta)) (lowest (graph_count t) (graph_holds t s delta)) s
@@ -221,38 +222,38 @@ module _ (t s : List ℕ) (delta : ℕ) where
       (both_so (fits_so t s delta) (λ w. w, λ w. w))
 
   -- It is accepted exactly when neither would, and the invariants of every graph hold at the end.
-  pub wait_accepted : ((passed_of t s delta).answer ≡ Waited.Accepted)
+  pub wait_accepted : ((passed_of t s delta).answer ≡ Ok tt)
       ↔ (InTime t s delta × ((g : ℕ) → g < graph_count t → HoldsAfter t s delta g))
   unfolding passed_of
   wait_accepted =
       through
-      (rung_on (Told Waited.Accepted) (all_fit t s delta) (refused_wait (Waited.Refused (refusal 26)) s) _ (other (λ e. omega arith))
-      (rung_last (Told Waited.Accepted) (all_below (graph_count t) (graph_holds t s delta)) (refused_wait _ s) _
+      (rung_on (Told (Ok tt)) (all_fit t s delta) (refused_wait (Err (WaitError.Refused (refusal 26))) s) _ (other (λ e. omega arith))
+      (rung_last (Told (Ok tt)) (all_below (graph_count t) (graph_holds t s delta)) (refused_wait _ s) _
       (other (λ e. omega arith)) refl))
       (both_so (fits_so t s delta) (all_hold_so t s delta))
 
   -- `wait` answers 32 exactly when table and state do not fit; where they do, it is this wait.
-  pub wait_32 : ((wait_of t s delta).answer ≡ Waited.Refused (refusal 32)) ↔ (system_fits t s ≡ false)
+  pub wait_32 : ((wait_of t s delta).answer ≡ Err (WaitError.Refused (refusal 32))) ↔ (system_fits t s ≡ false)
   unfolding wait_of passed_of
   wait_32 =
-      rung_here (Told (Waited.Refused (refusal 32))) (system_fits t s) (refused_wait (Waited.Refused (refusal 32)) s) (passed_of t s delta)
+      rung_here (Told (Err (WaitError.Refused (refusal 32)))) (system_fits t s) (refused_wait (Err (WaitError.Refused (refusal 32))) s) (passed_of t s delta)
       refl
-      (rung_none (Told (Waited.Refused (refusal 32))) (all_fit t s delta) (refused_wait (Waited.Refused (refusal 26)) s) _
+      (rung_none (Told (Err (WaitError.Refused (refusal 32)))) (all_fit t s delta) (refused_wait (Err (WaitError.Refused (refusal 26))) s) _
       (other (λ e. omega arith))
-      (rung_none (Told (Waited.Refused (refusal 32))) (all_below (graph_count t) (graph_holds t s delta)) (refused_wait _ s) _
+      (rung_none (Told (Err (WaitError.Refused (refusal 32)))) (all_below (graph_count t) (graph_holds t s delta)) (refused_wait _ s) _
       (other (λ e. omega arith)) (other (λ e. omega arith))))
 
   pub wait_passes : system_fits t s ≡ true → wait_of t s delta ≡ passed_of t s delta
   unfolding wait_of
-  wait_passes f = sym (passed (refused_wait (Waited.Refused (refusal 32)) s) f refl)
+  wait_passes f = sym (passed (refused_wait (Err (WaitError.Refused (refusal 32))) s) f refl)
 
 -- ---- asking
 -- an answer that something holds, of three tests, and the ladder of the same three
-asked : (f w h : Bool) (x : Waited) (s after : List ℕ) → (number_in x ≡ 0 → ⊥)
-    → (unless f (Held.Refused (refusal 32)) (Held.Is (w and h)) ≡ Held.Is true)
-    ↔ ((unless f (refused_wait (Waited.Refused (refusal 32)) s)
-    (unless w (refused_wait (Waited.Refused (refusal 26)) s)
-    (unless h (refused_wait x s) (record { answer = Waited.Accepted; state = after })))).answer ≡ Waited.Accepted)
+asked : (f w h : Bool) (x : Result ⊤ WaitError) (s after : List ℕ) → (number_in x ≡ 0 → ⊥)
+    → (unless f (Err (refusal 32)) (Ok (w and h)) ≡ Ok true)
+    ↔ ((unless f (refused_wait (Err (WaitError.Refused (refusal 32))) s)
+    (unless w (refused_wait (Err (WaitError.Refused (refusal 26))) s)
+    (unless h (refused_wait x s) (record { answer = Ok tt; state = after })))).answer ≡ Ok tt)
 unfolding unless ◌and◌
 asked true true true x s after n = (λ e. refl, λ e. refl)
 asked true true false x s after n = (λ e. let z : ◌≡◌ {A = ℕ} 0 1 = cc in absurd (omega arith), λ e. absurd (n (ap number_in e)))
@@ -260,13 +261,13 @@ asked true false h x s after n = (λ e. let z : ◌≡◌ {A = ℕ} 0 1 = cc in 
 asked false w h x s after n = (λ e. let z : ◌≡◌ {A = ℕ} 0 1 = cc in absurd (omega arith), λ e. absurd (other (λ y. omega arith) e))
 
 -- `can_wait` says yes exactly when `wait` is accepted.
-pub can_wait_exactly : (t s : List ℕ) (delta : ℕ) → (can_wait_of t s delta ≡ Held.Is true) ↔ ((wait_of t s delta).answer ≡ Waited.Accepted)
+pub can_wait_exactly : (t s : List ℕ) (delta : ℕ) → (can_wait_of t s delta ≡ Ok true) ↔ ((wait_of t s delta).answer ≡ Ok tt)
 unfolding can_wait_of wait_open wait_of passed_of
 can_wait_exactly t s delta =
     asked (system_fits t s) (all_fit t s delta) (all_below (graph_count t) (graph_holds t s delta)) _ s (later_state t s delta)
     (λ e. omega arith)
 
-held_so : (f b : Bool) → (unless f (Held.Refused (refusal 32)) (Held.Is b) ≡ Held.Is true) ↔ ((f ≡ true) × (b ≡ true))
+held_so : (f b : Bool) → (unless f (Err (refusal 32)) (Ok b) ≡ Ok true) ↔ ((f ≡ true) × (b ≡ true))
 unfolding unless
 held_so true true = (λ e. (refl, refl), λ q. refl)
 held_so true false = (λ e. let z : ◌≡◌ {A = ℕ} 0 1 = cc in absurd (omega arith), λ q. never q.1)
@@ -299,7 +300,7 @@ module _ (t s : List ℕ) where
   )
 
   -- `is_waiting` says yes exactly when `can_wait(1)` does and in some graph a transition will be open later.
-  pub is_waiting_exactly : (is_waiting_of t s ≡ Held.Is true) ↔ ((can_wait_of t s 1 ≡ Held.Is true) × SomeAwaited t s)
+  pub is_waiting_exactly : (is_waiting_of t s ≡ Ok true) ↔ ((can_wait_of t s 1 ≡ Ok true) × SomeAwaited t s)
   unfolding is_waiting_of system_waits can_wait_of
   is_waiting_exactly = (
     λ h.
@@ -312,8 +313,8 @@ module _ (t s : List ℕ) where
   )
 
   -- That is where `can_wait(1)` says yes, and `is_waiting` of some graph does.
-  pub is_waiting_by_graph : (is_waiting_of t s ≡ Held.Is true)
-      ↔ ((can_wait_of t s 1 ≡ Held.Is true) × ((g : ℕ) × (g < graph_count t) × (waits_on (graph_part t g) (run_of s g) ≡ true)))
+  pub is_waiting_by_graph : (is_waiting_of t s ≡ Ok true)
+      ↔ ((can_wait_of t s 1 ≡ Ok true) × ((g : ℕ) × (g < graph_count t) × (waits_on (graph_part t g) (run_of s g) ≡ true)))
   unfolding is_waiting_of system_waits can_wait_of graph_waits
   is_waiting_by_graph = (
     λ h.

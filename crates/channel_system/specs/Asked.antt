@@ -1,8 +1,7 @@
 -- What the theorems on the answers of a system's steps speak of.
-use Rattle.std.specs.Prelude.{ℕ, ◌+◌, ◌/◌, ◌<◌, ◌≤◌, ◌≡◌, List, ◌⊎◌, length, get_or}
+use Rattle.std.specs.Prelude.{ℕ, ◌+◌, ◌/◌, ◌<◌, ◌≤◌, ◌≡◌, List, ◌⊎◌, length, get_or, ⊤}
 use Rattle.graph_tables.specs.Sizes.{word32}
-use Rattle.graph_tables.specs.Answers.{done_number}
-use Rattle.graph_tables.specs.declared.answers.Done.{Done}
+use Rattle.graph_tables.specs.Answers.{Answer, answer_number}
 use Rattle.queues.specs.Layout.{slot_room}
 use Rattle.queues.specs.Queues.{queue_of, slots_for}
 use Rattle.system_tables.specs.declared.ids.ChannelCapacity.{ChannelCapacity}
@@ -15,11 +14,11 @@ use Rattle.channel_system.specs.Steps.{Moved}
 
 -- ---- answers
 -- it is answered with this number
-abbrev pub Answers : ℕ → Done → Type 0
-Answers n d = done_number d ≡ n
+abbrev pub Answers : ℕ → Answer ⊤ → Type 0
+Answers n d = answer_number d ≡ n
 
 -- what a step answers
-abbrev pub answer_of : Moved → Done
+abbrev pub answer_of : Moved → Answer ⊤
 answer_of m = m.told.answer
 
 -- ---- before the channel and the graph are asked

@@ -3,12 +3,8 @@
 use Rattle.std.specs.Prelude.{ℕ, ◌+◌, ◌≡◌, Bool, true, false, cond, List, [], ◌∷◌, ◌++◌, eqb}
 use Rattle.laws.specs.Below.{◌and◌}
 use Rattle.grammar.specs.declared.values.Slot.{Slot}
-use Rattle.graph_tables.specs.Refusals.{number_of}
-use Rattle.graph_tables.specs.Answers.{done_number}
+use Rattle.graph_tables.specs.Answers.{answer_number}
 use Rattle.program_graph.specs.RunChains.{resets_clock}
-use Rattle.program_graph.specs.declared.answers.Held.{Held}
-use Rattle.program_graph.specs.declared.answers.Listed as Graph
-use Rattle.program_graph.specs.declared.answers.Listed.TheVariants as OnGraph
 use Rattle.queues.specs.Queues.{values_of}
 use Rattle.system_tables.specs.declared.ids.Message.{Message}
 use Rattle.system_tables.specs.declared.ids.Message.TheVariants.{Send, Receive}
@@ -20,10 +16,6 @@ use Rattle.channel_system.specs.Waits.{wait_of, can_wait_of, is_waiting_of}
 use Rattle.channel_system.specs.Listing.{possible_of, possible_on, nosync_on}
 use Rattle.channel_system.specs.Readers.{now_of, length_of, queued_of, graph_run_of}
 use Rattle.channel_system.specs.Told.{waited_number}
-use Rattle.channel_system.specs.declared.answers.Listed.{Listed}
-use Rattle.channel_system.specs.declared.answers.Now.{Now}
-use Rattle.channel_system.specs.declared.answers.Length.{Length}
-use Rattle.channel_system.specs.declared.answers.Queued.{Queued}
 
 -- a call that only reads, with what is handed to it: a delta, a graph, a channel, an entry
 pub data Reading : Type 0 where
@@ -43,48 +35,20 @@ pub data Call : Type 0 where
   wait : ℕ → Call
   read : Reading → Call
 
--- ---- the number of an answer: 0 for ok
-abbrev pub held_number : Held → ℕ
-held_number (Held.Is b) = 0
-held_number (Held.Refused r) = number_of r
-
-abbrev pub entry_number : Graph.Listed → ℕ
-entry_number (OnGraph.At e) = 0
-entry_number OnGraph.End = 0
-entry_number (OnGraph.Refused r) = number_of r
-
-abbrev pub listed_number : Listed → ℕ
-listed_number (Listed.At g e) = 0
-listed_number Listed.End = 0
-listed_number (Listed.Refused r) = number_of r
-
-abbrev pub now_number : Now → ℕ
-now_number (Now.Is n) = 0
-now_number (Now.Refused r) = number_of r
-
-abbrev pub length_number : Length → ℕ
-length_number (Length.Is n) = 0
-length_number (Length.Refused r) = number_of r
-
-abbrev pub queued_number : Queued → ℕ
-queued_number (Queued.At v) = 0
-queued_number Queued.End = 0
-queued_number (Queued.Refused r) = number_of r
-
 -- what a call answers
 abbrev pub reading_number : List ℕ → List ℕ → Reading → ℕ
-reading_number t s (can_wait delta) = held_number (can_wait_of t s delta)
-reading_number t s is_waiting = held_number (is_waiting_of t s)
-reading_number t s (possible_transitions k) = listed_number (possible_of t s k)
-reading_number t s (possible_transitions_pg g k) = entry_number (possible_on t s g k)
-reading_number t s (nosync_possible_transitions_pg g k) = entry_number (nosync_on t s g k)
-reading_number t s time = now_number (now_of t s)
-reading_number t s (program_graph g) = done_number (graph_run_of t s g).answer
-reading_number t s (queue_length q) = length_number (length_of t s q)
-reading_number t s (queue_value q k) = queued_number (queued_of t s q k)
+reading_number t s (can_wait delta) = answer_number (can_wait_of t s delta)
+reading_number t s is_waiting = answer_number (is_waiting_of t s)
+reading_number t s (possible_transitions k) = answer_number (possible_of t s k)
+reading_number t s (possible_transitions_pg g k) = answer_number (possible_on t s g k)
+reading_number t s (nosync_possible_transitions_pg g k) = answer_number (nosync_on t s g k)
+reading_number t s time = answer_number (now_of t s)
+reading_number t s (program_graph g) = answer_number (graph_run_of t s g).answer
+reading_number t s (queue_length q) = answer_number (length_of t s q)
+reading_number t s (queue_value q k) = answer_number (queued_of t s q k)
 
 abbrev pub answer_to : List ℕ → List ℕ → Call → ℕ
-answer_to t s (transition g o a posts word) = done_number (transition_of t s g o a posts word).told.answer
+answer_to t s (transition g o a posts word) = answer_number (transition_of t s g o a posts word).told.answer
 answer_to t s (wait delta) = waited_number (wait_of t s delta).answer
 answer_to t s (read r) = reading_number t s r
 

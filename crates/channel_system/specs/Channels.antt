@@ -1,10 +1,9 @@
 -- What a channel asks of a communication (docs/RULES.md, 'Systems'): of one that is stepped, and of one that is listed. The two differ,
 -- so they
 -- stand beside each other. `stored` is how many slots of the queue are taken, `width` how many values a message has.
-use Rattle.std.specs.Prelude.{ℕ, ◌+◌, Bool, true, false, not, eqb, leb, ltb}
+use Rattle.std.specs.Prelude.{ℕ, ◌+◌, Bool, true, false, not, eqb, leb, ltb, ⊤}
+use Rattle.graph_tables.specs.Answers.{Answer, admitted}
 use Rattle.laws.specs.Ladder.{unless}
-use Rattle.graph_tables.specs.declared.answers.Done.{Done}
-use Rattle.graph_tables.specs.declared.answers.Done.TheVariants.{Accepted}
 use Rattle.graph_checks.specs.Checks.{refused_by}
 use Rattle.queues.specs.Layout.{slot_room}
 use Rattle.queues.specs.Queues.{slots_for}
@@ -21,29 +20,29 @@ handshake Sink = false
 
 -- ---- a step
 -- a send: 20 once the bound is reached; without a bound 27 if there is no room for a message more; a sink takes everything
-unfoldable pub send_test : ℕ → ℕ → ChannelCapacity → Done
-send_test stored width (Bounded n) = unless (ltb stored n) (refused_by 20) Accepted
-send_test stored width Unbounded = unless (leb (stored + slots_for width) slot_room) (refused_by 27) Accepted
-send_test stored width Sink = Accepted
+unfoldable pub send_test : ℕ → ℕ → ChannelCapacity → Answer ⊤
+send_test stored width (Bounded n) = unless (ltb stored n) (refused_by 20) admitted
+send_test stored width Unbounded = unless (leb (stored + slots_for width) slot_room) (refused_by 27) admitted
+send_test stored width Sink = admitted
 
 -- a receive: 21 if nothing is stored
-unfoldable pub receive_test : ℕ → Done
-receive_test stored = unless (ltb 0 stored) (refused_by 21) Accepted
+unfoldable pub receive_test : ℕ → Answer ⊤
+receive_test stored = unless (ltb 0 stored) (refused_by 21) admitted
 
 -- a probe of an empty queue: 24 at capacity 0, then 22 if anything is stored
-unfoldable pub empty_test : ℕ → ChannelCapacity → Done
-empty_test stored c = unless (not (handshake c)) (refused_by 24) (unless (eqb stored 0) (refused_by 22) Accepted)
+unfoldable pub empty_test : ℕ → ChannelCapacity → Answer ⊤
+empty_test stored c = unless (not (handshake c)) (refused_by 24) (unless (eqb stored 0) (refused_by 22) admitted)
 
 -- a probe of a full one: 24 at capacity 0, then 23 until the bound is reached; 25 without a bound; 23 of a sink
-abbrev pub reached : ℕ → ChannelCapacity → Done
-reached stored (Bounded n) = unless (leb n stored) (refused_by 23) Accepted
+abbrev pub reached : ℕ → ChannelCapacity → Answer ⊤
+reached stored (Bounded n) = unless (leb n stored) (refused_by 23) admitted
 reached stored Unbounded = refused_by 25
 reached stored Sink = refused_by 23
 
-unfoldable pub full_test : ℕ → ChannelCapacity → Done
+unfoldable pub full_test : ℕ → ChannelCapacity → Answer ⊤
 full_test stored c = unless (not (handshake c)) (refused_by 24) (reached stored c)
 
-abbrev pub step_test : Message → ℕ → ℕ → ChannelCapacity → Done
+abbrev pub step_test : Message → ℕ → ℕ → ChannelCapacity → Answer ⊤
 step_test Send stored width c = send_test stored width c
 step_test Receive stored width c = receive_test stored
 step_test ProbeEmptyQueue stored width c = empty_test stored c

@@ -1,11 +1,11 @@
 -- Marked examples of a system; and with those of the crates below, one list.
-use Rattle.std.specs.Prelude.{ℕ, zero, suc, cond, List, [], ◌∷◌, pos, replicate}
+use Rattle.std.specs.Prelude.{ℕ, zero, suc, cond, List, [], ◌∷◌, pos, replicate, Ok, Err, ⊤}
+use Rattle.channel_system.specs.declared.answers.WaitError.TheVariants as WaitError
 use Rattle.laws.specs.Examples.{Examples, end, gives}
 use Rattle.grammar.specs.declared.values.Val.TheVariants.{Integer}
 use Rattle.graph_tables.specs.Sizes.{last_time}
-use Rattle.graph_tables.specs.Answers.{done_number}
+use Rattle.graph_tables.specs.Answers.{Answer, answer_number}
 use Rattle.graph_tables.specs.Refusals.{refusal}
-use Rattle.graph_tables.specs.declared.answers.Done.{Done}
 use Rattle.graph_tables.specs.declared.handed.Message.{Message}
 use Rattle.program_graph.specs.Marked.{both, examples as graph_examples}
 use Rattle.queues.specs.Layout.{queue_words}
@@ -15,7 +15,6 @@ use Rattle.system_tables.specs.declared.ids.ChannelCapacity.TheVariants.{Bounded
 use Rattle.channel_system.specs.Channels.{send_test, receive_test, empty_test, full_test}
 use Rattle.channel_system.specs.Steps.{stores}
 use Rattle.channel_system.specs.Waits.{passed_of}
-use Rattle.channel_system.specs.declared.answers.Waited.TheVariants as Waited
 
 -- a message of two values
 abbrev pair : Message
@@ -26,12 +25,12 @@ pair =
     }
 
 -- a send to a queue of a capacity: the queue afterwards, the same where it is refused, or where nothing is stored
-abbrev send_of : ChannelCapacity → List ℕ → Done
+abbrev send_of : ChannelCapacity → List ℕ → Answer ⊤
 send_of c q = send_test (stored_of q) pair.count c
 
-abbrev left_if : Done → List ℕ → List ℕ → List ℕ
-left_if Done.Accepted q after = after
-left_if (Done.Refused r) q after = q
+abbrev left_if : Answer ⊤ → List ℕ → List ℕ → List ℕ
+left_if (Ok _) q after = after
+left_if (Err r) q after = q
 
 abbrev sent_to : ChannelCapacity → List ℕ → List ℕ
 sent_to c q = left_if (send_of c q) q (cond (stores c) (pushed_all q pair) q)
@@ -51,14 +50,14 @@ system_examples =
     gives (stored_of (after (Bounded 3) 0)) 0
     (gives (stored_of (after (Bounded 3) 1)) 2
     (gives (stored_of (after (Bounded 3) 2)) 4
-    (gives (done_number (send_of (Bounded 3) (after (Bounded 3) 2))) 20
+    (gives (answer_number (send_of (Bounded 3) (after (Bounded 3) 2))) 20
     -- W11 probe at capacity 0: 24
-    (gives (done_number (empty_test (stored_of (after (Bounded 0) 0)) (Bounded 0))) 24
-    (gives (done_number (full_test (stored_of (after (Bounded 0) 0)) (Bounded 0))) 24
+    (gives (answer_number (empty_test (stored_of (after (Bounded 0) 0)) (Bounded 0))) 24
+    (gives (answer_number (full_test (stored_of (after (Bounded 0) 0)) (Bounded 0))) 24
     -- W12 receive from a sink: 21
-    (gives (done_number (receive_test (stored_of (after Sink 1)))) 21
+    (gives (answer_number (receive_test (stored_of (after Sink 1)))) 21
     -- W14 time 4294967295, wait 1: 26
-    (gives (passed_of [] (at_time last_time) 1).answer (Waited.Refused (refusal 26))
+    (gives (passed_of [] (at_time last_time) 1).answer (Err (WaitError.Refused (refusal 26)))
     end)))))))
 
 -- W1 to W9 and W13 are examples of one graph, of time ranges and of expressions

@@ -1,8 +1,7 @@
 -- What the listing of a system lists: the rows of each graph that may be taken and that their channels let through.
-use Rattle.std.specs.Prelude.{ℕ, ◌<◌, ◌≡◌, Bool, true, cond, List, [], ◌∷◌, get_or}
+use Rattle.std.specs.Prelude.{ℕ, ◌<◌, ◌≡◌, Bool, true, cond, List, [], ◌∷◌, get_or, Ok, Some}
 use Rattle.graph_tables.specs.declared.answers.Entry.{Entry}
 use Rattle.run_steps.specs.Rows.{Row, entry_for, Open, Then, Before, AtMost}
-use Rattle.program_graph.specs.declared.answers.Listed.TheVariants.{At}
 use Rattle.system_tables.specs.Words.{graph_part}
 use Rattle.channel_system.specs.Steps.{locations_of, run_of, spoken_by}
 use Rattle.channel_system.specs.Listing.{listed_as, possible_on, Possible}
@@ -46,4 +45,4 @@ NotAfter p q = Then p.graph q.graph (AtMost p.entry q.entry)
 abbrev pub AllListed : List ℕ → List ℕ → ℕ → ℕ → List ℕ → Type 0
 AllListed t s g a posts =
     (p : ℕ) → p < (run_of s g).processes
-    → (k : ℕ) × (possible_on t s g k ≡ At (record { action = record { 0 = a }; process = p; post = get_or (locations_of posts) p 0 }))
+    → (k : ℕ) × (possible_on t s g k ≡ Ok (Some (record { action = record { 0 = a }; process = p; post = get_or (locations_of posts) p 0 })))

@@ -1,12 +1,12 @@
 -- A step of a system (docs/RULES.md, 'Systems'): the answer, and the state afterwards. A refusal gives back the state that came in.
-use Rattle.std.specs.Prelude.{ℕ, ◌+◌, ◌/◌, ◌%◌, Bool, true, false, cond, List, [], ◌∷◌, eqb, leb, ltb, length, get_or}
+use Rattle.std.specs.Prelude.{ℕ, ◌+◌, ◌/◌, ◌%◌, Bool, true, false, cond, List, [], ◌∷◌, eqb, leb, ltb, length, get_or, Ok, Err, ⊤}
+use Rattle.graph_tables.specs.Answers.{Answer}
 use Rattle.laws.specs.Ladder.{unless}
 use Rattle.laws.specs.Below.{◌and◌, all_below}
 use Rattle.graph_tables.specs.Sizes.{process_room, word32}
 use Rattle.graph_tables.specs.Words.{action_count}
 use Rattle.graph_tables.specs.Refusals.{refusal}
 use Rattle.graph_tables.specs.declared.refusals.Refusal.{Refusal}
-use Rattle.graph_tables.specs.declared.answers.Done.{Done}
 use Rattle.graph_tables.specs.declared.handed.Message as Values
 use Rattle.run_steps.specs.Messages.{no_message}
 use Rattle.program_graph.specs.declared.record.ProgramGraphRun.{ProgramGraphRun}
@@ -27,7 +27,6 @@ use Rattle.system_state.specs.Words.{run_part, with_run, queue_part, with_queue}
 use Rattle.system_state.specs.Fits.{state_fits}
 use Rattle.channel_system.specs.Channels.{step_test}
 use Rattle.channel_system.specs.declared.answers.Event.{Event}
-use Rattle.channel_system.specs.declared.answers.Stepped.{Stepped}
 
 -- 'Bad state': the table is one that can be run, and the state is one of the table's
 unfoldable pub system_fits : List ℕ → List ℕ → Bool
@@ -71,7 +70,16 @@ oldest_in t s q = first_of (queue_part s q) (width_of t q)
 abbrev pub taken_from : List ℕ → List ℕ → ℕ → List ℕ
 taken_from t s q = with_queue s q (dropped (queue_part s q) (slots_for (width_of t q)))
 
+-- ---- what was asked for where the answer is ok, else its refusal
+abbrev pub carrying : {A : Type 0} → Answer ⊤ → A → Answer A
+carrying (Ok _) x = Ok x
+carrying (Err r) x = Err r
+
 -- ---- an answer with its event, and the state afterwards
+pub record Stepped : Type 0 where
+  pub answer : Answer ⊤
+  pub event : Event
+
 pub record Moved : Type 0 where
   pub told : Stepped
   pub state : List ℕ
@@ -84,19 +92,19 @@ abbrev pub event_of : ℕ → Message → ℕ → Values.Message → Event
 event_of g m q values = record { pg_id = record { 0 = g }; on = On m (record { 0 = q }); values = values }
 
 -- what the graph's own call answers decides: a refusal has no event and leaves the state s
-abbrev pub left_by : Done → List ℕ → List ℕ → List ℕ
-left_by Done.Accepted s u = u
-left_by (Done.Refused r) s u = s
+abbrev pub left_by : Answer ⊤ → List ℕ → List ℕ → List ℕ
+left_by (Ok _) s u = u
+left_by (Err r) s u = s
 
-abbrev pub event_if : Done → ℕ → Event → Event
-event_if Done.Accepted g e = e
-event_if (Done.Refused r) g e = no_event g
+abbrev pub event_if : Answer ⊤ → ℕ → Event → Event
+event_if (Ok _) g e = e
+event_if (Err r) g e = no_event g
 
-abbrev pub told_if : Done → ℕ → List ℕ → Event → List ℕ → Moved
+abbrev pub told_if : Answer ⊤ → ℕ → List ℕ → Event → List ℕ → Moved
 told_if d g s e u = record { told = record { answer = d; event = event_if d g e }; state = left_by d s u }
 
 abbrev pub refused_with : Refusal → ℕ → List ℕ → Moved
-refused_with r g s = record { told = record { answer = Done.Refused r; event = no_event g }; state = s }
+refused_with r g s = record { told = record { answer = Err r; event = no_event g }; state = s }
 
 abbrev pub refused_step : ℕ → ℕ → List ℕ → Moved
 refused_step n g s = refused_with (refusal n) g s
@@ -134,11 +142,11 @@ message_step t s g a posts word q ProbeEmptyQueue = probe_step t s g a posts wor
 message_step t s g a posts word q ProbeFullQueue = probe_step t s g a posts word q ProbeFullQueue
 
 -- ---- the channel is asked first
-abbrev pub open_if : Done → ℕ → List ℕ → Moved → Moved
-open_if Done.Accepted g s rest = rest
-open_if (Done.Refused r) g s rest = refused_with r g s
+abbrev pub open_if : Answer ⊤ → ℕ → List ℕ → Moved → Moved
+open_if (Ok _) g s rest = rest
+open_if (Err r) g s rest = refused_with r g s
 
-abbrev pub channel_answer : List ℕ → List ℕ → ℕ → Message → Done
+abbrev pub channel_answer : List ℕ → List ℕ → ℕ → Message → Answer ⊤
 channel_answer t s q m = step_test m (stored_of (queue_part s q)) (width_of t q) (capacity_of t q)
 
 abbrev pub step_as : List ℕ → List ℕ → ℕ → ℕ → List ℕ → ℕ → Communication → Moved

@@ -1,5 +1,7 @@
 -- What the theorems on a system speak of.
-use Rattle.std.specs.Prelude.{ℕ, ◌%◌, ◌<◌, ◌≤◌, ◌≡◌, true, false, List, length, get_or}
+use Rattle.std.specs.Prelude.{ℕ, ◌%◌, ◌<◌, ◌≤◌, ◌≡◌, true, false, List, length, get_or, Ok, Err, ⊤}
+use Rattle.channel_system.specs.declared.answers.WaitError.{WaitError}
+use Rattle.std.specs.declared.result.Result.{Result}
 use Rattle.laws.specs.Below.{all_below}
 use Rattle.grammar.specs.Evaluation.{blank}
 use Rattle.grammar.specs.Slots.{kind_in}
@@ -19,13 +21,12 @@ use Rattle.system_state.specs.Words.{queue_part}
 use Rattle.system_state.specs.Fits.{ceiling_at}
 use Rattle.channel_system.specs.Steps.{own_post, locations_of, run_of, oldest_in, no_event, event_of}
 use Rattle.channel_system.specs.declared.answers.Event.{Event}
-use Rattle.channel_system.specs.declared.answers.Waited.{Waited}
 
 -- ---- the number of a wait's answer: 0 for ok, 9 where a graph objects
-abbrev pub waited_number : Waited → ℕ
-waited_number Waited.Accepted = 0
-waited_number (Waited.Invariant g) = 9
-waited_number (Waited.Refused r) = number_of r
+abbrev pub waited_number : Result ⊤ WaitError → ℕ
+waited_number (Ok _) = 0
+waited_number (Err (WaitError.Invariant g)) = 9
+waited_number (Err (WaitError.Refused r)) = number_of r
 
 -- ---- a step that is asked rightly: of a graph that there is, with a post of that graph for each of its processes
 pub record AskedRightly (t s : List ℕ) (g : ℕ) (posts : List ℕ) : Type 0 where

@@ -1,16 +1,17 @@
 -- A wait of a system, and whether it is waiting (docs/RULES.md, 'Systems'): the answer, and the state afterwards.
-use Rattle.std.specs.Prelude.{ℕ, zero, suc, ◌+◌, Bool, List, leb}
+use Rattle.std.specs.Prelude.{ℕ, zero, suc, ◌+◌, Bool, List, leb, Ok, Err, ⊤}
+use Rattle.graph_tables.specs.Answers.{Answer}
+use Rattle.channel_system.specs.declared.answers.WaitError.{WaitError}
+use Rattle.std.specs.declared.result.Result.{Result}
 use Rattle.laws.specs.Ladder.{unless}
 use Rattle.laws.specs.Below.{◌and◌, all_below, any_below}
 use Rattle.graph_tables.specs.Sizes.{last_time}
 use Rattle.graph_tables.specs.Refusals.{refusal}
 use Rattle.run_steps.specs.Lowest.{lowest}
 use Rattle.program_graph.specs.Running.{wait_fits, wait_holds, waits_on, later}
-use Rattle.program_graph.specs.declared.answers.Held.{Held}
 use Rattle.system_tables.specs.Words.{graph_count, graph_part}
 use Rattle.system_state.specs.Words.{time_in, with_time}
 use Rattle.channel_system.specs.Steps.{system_fits, run_of, ran_to}
-use Rattle.channel_system.specs.declared.answers.Waited.{Waited}
 
 -- ---- of one graph
 -- no clock of graph g would pass the last time
@@ -40,29 +41,29 @@ later_state t s delta = with_time (later_below t s delta (graph_count t)) (time_
 
 -- ---- the wait
 pub record Passed : Type 0 where
-  pub answer : Waited
+  pub answer : Result ⊤ WaitError
   pub state : List ℕ
 
-abbrev pub refused_wait : Waited → List ℕ → Passed
+abbrev pub refused_wait : Result ⊤ WaitError → List ℕ → Passed
 refused_wait w s = record { answer = w; state = s }
 
 -- 26, then 9 with the lowest graph that objects
 unfoldable pub passed_of : List ℕ → List ℕ → ℕ → Passed
 passed_of t s delta =
-    unless (all_fit t s delta) (refused_wait (Waited.Refused (refusal 26)) s)
+    unless (all_fit t s delta) (refused_wait (Err (WaitError.Refused (refusal 26))) s)
     (unless (all_below (graph_count t) (graph_holds t s delta))
-    (refused_wait (Waited.Invariant (record { 0 = lowest (graph_count t) (graph_holds t s delta) })) s)
-    (record { answer = Waited.Accepted; state = later_state t s delta }))
+    (refused_wait (Err (WaitError.Invariant (record { 0 = lowest (graph_count t) (graph_holds t s delta) }))) s)
+    (record { answer = Ok tt; state = later_state t s delta }))
 
 unfoldable pub wait_of : List ℕ → List ℕ → ℕ → Passed
-wait_of t s delta = unless (system_fits t s) (refused_wait (Waited.Refused (refusal 32)) s) (passed_of t s delta)
+wait_of t s delta = unless (system_fits t s) (refused_wait (Err (WaitError.Refused (refusal 32))) s) (passed_of t s delta)
 
 -- ---- whether a wait would be accepted
 unfoldable pub wait_open : List ℕ → List ℕ → ℕ → Bool
 wait_open t s delta = all_fit t s delta and all_below (graph_count t) (graph_holds t s delta)
 
-unfoldable pub can_wait_of : List ℕ → List ℕ → ℕ → Held
-can_wait_of t s delta = unless (system_fits t s) (Held.Refused (refusal 32)) (Held.Is (wait_open t s delta))
+unfoldable pub can_wait_of : List ℕ → List ℕ → ℕ → Answer Bool
+can_wait_of t s delta = unless (system_fits t s) (Err (refusal 32)) (Ok (wait_open t s delta))
 
 -- ---- a wait of 1 would be accepted, and some graph is waiting
 unfoldable pub graph_waits : List ℕ → List ℕ → ℕ → Bool
@@ -71,5 +72,5 @@ graph_waits t s g = waits_on (graph_part t g) (run_of s g)
 unfoldable pub system_waits : List ℕ → List ℕ → Bool
 system_waits t s = wait_open t s 1 and any_below (graph_count t) (graph_waits t s)
 
-unfoldable pub is_waiting_of : List ℕ → List ℕ → Held
-is_waiting_of t s = unless (system_fits t s) (Held.Refused (refusal 32)) (Held.Is (system_waits t s))
+unfoldable pub is_waiting_of : List ℕ → List ℕ → Answer Bool
+is_waiting_of t s = unless (system_fits t s) (Err (refusal 32)) (Ok (system_waits t s))

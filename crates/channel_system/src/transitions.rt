@@ -2,9 +2,9 @@
 ghost use Rattle.std.specs.Prelude.{◌≡◌};
 ghost use Rattle.channel_system.specs.Listing.{possible_of, possible_on, nosync_on};
 
-use crate::answers::Listed;
 use crate::inner::listing;
 use crate::run;
+use graph_tables::answers::{Answer, Entry};
 use graph_tables::inner;
 use graph_tables::refusals::Refusal;
 use program_graph::inner::listing::entry_or_end;
@@ -12,30 +12,21 @@ use system_tables::ids::PgId;
 use system_tables::inner::words;
 
 // Entry k of what all graphs may do next.
-pub fn possible_transitions(t: &[u64], s: &[u64], k: usize) -> Listed
+pub fn possible_transitions(t: &[u64], s: &[u64], k: usize) -> Answer<Option<(PgId, Entry)>>
     ensures { result ≡ possible_of t.now s.now k }
 {
-    if !run::system_fits(t, s) {
-        return Listed::Refused(Refusal::BadState);
-    }
+    run::fitting(t, s)?;
     listing::entry_at(t, s, k)
 }
 
 // Entry k of what one graph may do next.
-pub fn possible_transitions_pg(
-    t: &[u64],
-    s: &[u64],
-    pg_id: PgId,
-    k: usize,
-) -> program_graph::answers::Listed
+pub fn possible_transitions_pg(t: &[u64], s: &[u64], pg_id: PgId, k: usize) -> Answer<Option<Entry>>
     ensures { result ≡ possible_on t.now s.now pg_id.0 k }
 {
-    if !run::system_fits(t, s) {
-        return program_graph::answers::Listed::Refused(Refusal::BadState);
-    }
+    run::fitting(t, s)?;
     let g = pg_id.0 as usize;
     if words::graph_count(t) <= g {
-        return program_graph::answers::Listed::Refused(Refusal::MissingPg);
+        return Err(Refusal::MissingPg);
     }
     entry_or_end(listing::seek_on(t, s, g, k))
 }
@@ -46,18 +37,16 @@ pub fn nosync_possible_transitions_pg(
     s: &[u64],
     pg_id: PgId,
     k: usize,
-) -> program_graph::answers::Listed
+) -> Answer<Option<Entry>>
     ensures { result ≡ nosync_on t.now s.now pg_id.0 k }
 {
-    if !run::system_fits(t, s) {
-        return program_graph::answers::Listed::Refused(Refusal::BadState);
-    }
+    run::fitting(t, s)?;
     let g = pg_id.0 as usize;
     if words::graph_count(t) <= g {
-        return program_graph::answers::Listed::Refused(Refusal::MissingPg);
+        return Err(Refusal::MissingPg);
     }
     if inner::process_count(words::graph_at(t, g)) != 1 {
-        return program_graph::answers::Listed::Refused(Refusal::Sync);
+        return Err(Refusal::Sync);
     }
     entry_or_end(listing::seek_on(t, s, g, k))
 }

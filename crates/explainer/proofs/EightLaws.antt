@@ -10,7 +10,7 @@ use lib.ListN.{length}
 use Rattle.laws.specs.Ladder.{unless}
 use Rattle.laws.specs.Below.{all_below}
 use Rattle.laws.proofs.BelowLaws.{all_at, and_both, and_no}
-use Rattle.graph_tables.specs.Answers.{done_number}
+use Rattle.graph_tables.specs.Answers.{answer_number}
 use Rattle.graph_tables.specs.Sizes.{plain_kind}
 use Rattle.graph_tables.specs.Sound.{Sound}
 use Rattle.graph_tables.specs.Words.{action_count, action_kind, epsilon}
@@ -18,20 +18,20 @@ use Rattle.run_steps.specs.Steps.{post_known, ready_of, is_kind, clocks_after, e
 use Rattle.run_steps.specs.Listing.{clocks_by}
 use Rattle.program_graph.specs.Running.{step_of, autonomous_of, acted_of, plain_of, ready_still, refused, accepted}
 use Rattle.program_graph.specs.declared.record.ProgramGraphRun.{ProgramGraphRun}
-use Rattle.program_graph.specs.declared.answers.Stepped.{Stepped}
+use Rattle.program_graph.specs.Outcomes.{RunOutcome}
 use Rattle.explainer.specs.Facts.{Asked}
 
-abbrev number : Stepped → ℕ
-number s = done_number s.answer
+abbrev number : RunOutcome → ℕ
+number s = answer_number s.answer
 
 -- a rung that answers another number is passed
-passed_on : (b : Bool) (refusal rest : Stepped) → number (unless b refusal rest) ≡ 8 → (number refusal ≡ 8 → ⊥) → (b ≡ true) × (number rest ≡ 8)
+passed_on : (b : Bool) (refusal rest : RunOutcome) → number (unless b refusal rest) ≡ 8 → (number refusal ≡ 8 → ⊥) → (b ≡ true) × (number rest ≡ 8)
 unfolding unless
 passed_on true refusal rest h n = (refl, h)
 passed_on false refusal rest h n = absurd (n h)
 
 -- one behind which 8 does not come is where it stops
-stopped_at : (b : Bool) (refusal rest : Stepped) → number (unless b refusal rest) ≡ 8 → (number rest ≡ 8 → ⊥) → b ≡ false
+stopped_at : (b : Bool) (refusal rest : RunOutcome) → number (unless b refusal rest) ≡ 8 → (number rest ≡ 8 → ⊥) → b ≡ false
 unfolding unless
 stopped_at true refusal rest h n = absurd (n h)
 stopped_at false refusal rest h n = refl

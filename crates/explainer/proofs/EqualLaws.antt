@@ -19,13 +19,9 @@ use Rattle.system_tables.specs.Sizes.{graph_room}
 use Rattle.system_tables.specs.Words.{graph_part}
 use Rattle.system_tables.specs.Sound.{SystemSound}
 use Rattle.explainer.specs.Layout.{all_guards, all_limits, group_at, limit_at}
-use Rattle.explainer.specs.Same.{part, word_same, all_same, guard_same, limits_same, transition_same, location_same, graph_same, tables_same}
+use Rattle.explainer.specs.Same.{part, guard_same, limits_same, transition_same, location_same, graph_same, tables_same}
 use Rattle.explainer.specs.Facts.{GraphEqual, Equal, limit_words_of}
-use Rattle.explainer.proofs.SameLaws.{part_length, guard_lent, guard_built, group_lent, group_built, same_lists}
-
-lists_same : (xs ys : List ℕ) → xs ≡ ys → all_same xs ys ≡ true
-unfolding all_same word_same
-lists_same xs ys e = all_from (word_same xs ys) (length xs) (λ i l. eq-eqb _ _ (ap (λ (zs : List ℕ). get_or zs i 0) e))
+use Rattle.explainer.proofs.SameLaws.{part_length, guard_lent, guard_built, group_lent, group_built, same_lists, lists_same}
 
 -- ---- of one graph
 module _ (t guards limits : List ℕ) (sound : Sound t) (eg : length guards ≡ all_guards) (el : length limits ≡ all_limits) (g : ℕ)

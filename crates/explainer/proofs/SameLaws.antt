@@ -1,13 +1,14 @@
 -- Parts of lists, and lists with the same words.
 use Prim.Native.Nat.{ℕ, ◌+◌, ◌*◌, ◌<◌, ◌≤◌}
-use mathlib.Core.Path.{◌≡◌}
-use mathlib.Core.Bool.{true}
+use mathlib.Core.Path.{◌≡◌, refl, sym, ap, ◌∙◌}
+use mathlib.Core.Bool.{Bool, true, false}
+use Rattle.std.specs.Bool.{Decides}
 use mathlib.Core.List.{List}
 use native.Mathlib.Omega.{arith}
-use borrow.Author.Tests.{eqb-true}
-use lib.ListN.{length, drop, length-drop}
+use borrow.Author.Tests.{eqb-true, eq-eqb}
+use lib.ListN.{length, get_or, drop, length-drop}
 use lib.Seq.{length-take-le, ext_get_or}
-use Rattle.laws.proofs.BelowLaws.{all_at}
+use Rattle.laws.proofs.BelowLaws.{all_at, all_from}
 use Rattle.graph_tables.specs.Sizes.{transition_room, group_room, limit_room, item_room}
 use Rattle.graph_tables.specs.Layout.{limit_width, group_start, guard_slot}
 use Rattle.graph_tables.specs.Words.{Words}
@@ -38,3 +39,16 @@ group_built t group n e b c = part_length t (group_start group) (limit_width * n
 pub same_lists : (xs ys : List ℕ) → length xs ≡ length ys → all_same xs ys ≡ true → xs ≡ ys
 unfolding all_same word_same
 same_lists xs ys e h = ext_get_or 0 xs ys e (λ i l. eqb-true _ _ (all_at (word_same xs ys) (length xs) i h l))
+
+pub lists_same : (xs ys : List ℕ) → xs ≡ ys → all_same xs ys ≡ true
+unfolding all_same word_same
+lists_same xs ys e = all_from (word_same xs ys) (length xs) (λ i l. eq-eqb _ _ (ap (λ (zs : List ℕ). get_or zs i 0) e))
+
+-- what tells whether two lists of a length are equal tells whether they have the same words
+pub same_decides : (xs ys : List ℕ) → length xs ≡ length ys → (r : Bool) → Decides r (xs ≡ ys) → r ≡ all_same xs ys
+same_decides xs ys e true d = sym (lists_same xs ys (d.0 refl))
+same_decides xs ys e false d = by (all_same xs ys) refl
+  where
+    by : (b : Bool) → all_same xs ys ≡ b → false ≡ all_same xs ys
+    by true h = d.1 (same_lists xs ys e h) ∙ sym h
+    by false h = sym h

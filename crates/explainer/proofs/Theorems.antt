@@ -1,4 +1,5 @@
 -- What holds of the explainer (docs/RULES.md, 'Why a step answered 8').
+use Rattle.std.specs.Prelude.{⊤}
 use Prim.Native.Nat.{ℕ, ◌<◌}
 use mathlib.Core.Path.{◌≡◌, refl, sym, ap, subst, ◌∙◌}
 use mathlib.Core.Bool.{Bool, true, false, cond}
@@ -13,10 +14,9 @@ use lib.ListN.{length}
 use Rattle.laws.specs.Ladder.{unless}
 use Rattle.laws.specs.Below.{all_below}
 use Rattle.laws.proofs.Ladder.{passed, stopped, rung}
-use Rattle.graph_tables.specs.Answers.{done_number}
+use Rattle.graph_tables.specs.Answers.{Answer, answer_number}
 use Rattle.graph_tables.specs.Words.{key_of, post_of, invariant_group}
 use Rattle.graph_tables.specs.Sound.{Sound}
-use Rattle.graph_tables.specs.declared.answers.Done.{Done}
 use Rattle.run_steps.specs.Steps.{nothing_fails}
 use Rattle.run_steps.proofs.LimitLaws.{limits_of_transition, invariants_of_location}
 use Rattle.program_graph.specs.Running.{step_of}
@@ -94,7 +94,7 @@ why_quiet n why e = by (eqb n unsatisfied)
 
 -- ---- two ladders of the same tests give the same number
 abbrev number : Moved → ℕ
-number m = done_number (answer_of m)
+number m = answer_number (answer_of m)
 
 short : (f : Found) (m : Moved) (f' : Found) (m' : Moved) → f.answer ≡ number m → (unless false f f').answer ≡ number (unless false m m')
 unfolding unless
@@ -113,7 +113,7 @@ module _ (t s guards limits : List ℕ) (g o a : ℕ) (posts : List ℕ) (word :
   abbrev found : Found
   found = found_of t s guards limits g o a posts word
 
-  abbrev step : Done
+  abbrev step : Answer ⊤
   step = answer_of (transition_of t s g o a posts word)
 
   -- ---- the answers in their order
@@ -160,7 +160,7 @@ module _ (t s guards limits : List ℕ) (g o a : ℕ) (posts : List ℕ) (word :
   G = graph_part t g
 
   abbrev own : ℕ
-  own = done_number (step_of G (run_of s g) a (locations_of posts) word).answer
+  own = answer_number (step_of G (run_of s g) a (locations_of posts) word).answer
 
   own_eight : Eighth → own ≡ unsatisfied
   unfolding graph_why
@@ -229,7 +229,7 @@ module _ (t s guards limits : List ℕ) (g o a : ℕ) (posts : List ℕ) (word :
       ∙ why_answer own (caused G g (cause_of G (run_of s g) a (locations_of posts))) refl
 
   -- ---- Every answer of a plain action is the step's.
-  plain_same : spoken_by t g a ≡ Plain → (plain_why t s g o a posts word).answer ≡ done_number (answer_of (moved_of t s g o a posts word))
+  plain_same : spoken_by t g a ≡ Plain → (plain_why t s g o a posts word).answer ≡ answer_number (answer_of (moved_of t s g o a posts word))
   unfolding plain_why graph_why moved_of plain_step
   plain_same plain =
       ladders (ltb g (graph_count t)) _ _ _ _ refl
@@ -237,13 +237,13 @@ module _ (t s guards limits : List ℕ) (g o a : ℕ) (posts : List ℕ) (word :
       (ladders (all_below (length posts) (own_post posts g)) _ _ _ _ refl
       (rw plain (why_answer own (caused G g (cause_of G (run_of s g) a (locations_of posts))) refl))))
 
-  pub as_the_step : spoken_by t g a ≡ Plain → (system_fits t s ≡ true → Equal t guards limits) → found.answer ≡ done_number step
+  pub as_the_step : spoken_by t g a ≡ Plain → (system_fits t s ≡ true → Equal t guards limits) → found.answer ≡ answer_number step
   unfolding found_of transition_of
   as_the_step plain equal = by (system_fits t s) refl
     where
       by : (b : Bool) → system_fits t s ≡ b
           → (unless b (answered 32) (unless (tables_same t guards limits) (answered 5) (plain_why t s g o a posts word))).answer
-          ≡ done_number (answer_of (unless b (refused_step 32 g s) (moved_of t s g o a posts word)))
+          ≡ answer_number (answer_of (unless b (refused_step 32 g s) (moved_of t s g o a posts word)))
       by false e = short (answered 32) (refused_step 32 g s) _ _ refl
       by true e =
           long (answered 32) (refused_step 32 g s) _ _

@@ -10,7 +10,7 @@ use lib.ListN.{length}
 use Rattle.laws.specs.Below.{all_below}
 use Rattle.laws.proofs.Ladder.{stopped, rung}
 use Rattle.laws.proofs.BelowLaws.{and_first, and_rest}
-use Rattle.graph_tables.specs.Answers.{done_number}
+use Rattle.graph_tables.specs.Answers.{answer_number}
 use Rattle.graph_tables.specs.Sizes.{process_room}
 use Rattle.graph_tables.specs.Layout.{limit_width}
 use Rattle.graph_tables.specs.Words.{key_of, post_of, guard_length, invariant_group}
@@ -18,7 +18,7 @@ use Rattle.graph_tables.specs.Sound.{Sound}
 use Rattle.run_steps.specs.Steps.{guard_fails, limit_fails, invariant_fails}
 use Rattle.run_steps.proofs.LimitLaws.{invariants_of_location}
 use Rattle.program_graph.specs.Running.{step_of, refused}
-use Rattle.program_graph.specs.declared.answers.Stepped.{Stepped}
+use Rattle.program_graph.specs.Outcomes.{RunOutcome}
 use Rattle.system_tables.specs.Sizes.{graph_room}
 use Rattle.system_tables.specs.Words.{graph_count, graph_part}
 use Rattle.channel_system.specs.Steps.{system_fits, own_post, locations_of, run_of}
@@ -51,7 +51,7 @@ unfolding graph_why step_of
 why_few t s g a posts word few =
     few_same posts (λ (qs : List ℕ). graph_why t s g a qs word) (run_of s g).processes (answered 7) few
     (λ qs h.
-    ap (λ (st : Stepped). why_by (done_number st.answer) (caused (graph_part t g) g (cause_of (graph_part t g) (run_of s g) a qs)))
+    ap (λ (st : RunOutcome). why_by (answer_number st.answer) (caused (graph_part t g) g (cause_of (graph_part t g) (run_of s g) a qs)))
     (sym (stopped (refused 7 (run_of s g)) _ (ne_eqb _ _ h))))
 
 -- ---- where the part stands
@@ -97,18 +97,18 @@ module _ (guards limits : List ℕ) (eg : length guards ≡ all_guards) (el : le
 
   graph_within : (t s : List ℕ) (g a : ℕ) (posts : List ℕ) (word : ℕ) → Fitting t s g → Within guards limits (graph_why t s g a posts word)
   unfolding graph_why
-  graph_within t s g a posts word f = by (eqb (done_number (step_of (graph_part t g) (run_of s g) a posts word).answer) unsatisfied) refl
+  graph_within t s g a posts word f = by (eqb (answer_number (step_of (graph_part t g) (run_of s g) a posts word).answer) unsatisfied) refl
     where
-      by : (b : Bool) → eqb (done_number (step_of (graph_part t g) (run_of s g) a posts word).answer) unsatisfied ≡ b
+      by : (b : Bool) → eqb (answer_number (step_of (graph_part t g) (run_of s g) a posts word).answer) unsatisfied ≡ b
           → Within guards limits
           (cond b (caused (graph_part t g) g (cause_of (graph_part t g) (run_of s g) a posts))
-          (answered (done_number (step_of (graph_part t g) (run_of s g) a posts word).answer)))
+          (answered (answer_number (step_of (graph_part t g) (run_of s g) a posts word).answer)))
       by true e =
           caused_within (graph_part t g) (part_sound f) g (small f) (cause_of (graph_part t g) (run_of s g) a posts)
           (real_stands
           (cause_real (graph_part t g) (run_of s g) a posts
           (eight_asked (graph_part t g) (part_sound f) (run_of s g) posts a word (eqb-true _ _ e))))
-      by false e = answered_within (done_number (step_of (graph_part t g) (run_of s g) a posts word).answer)
+      by false e = answered_within (answer_number (step_of (graph_part t g) (run_of s g) a posts word).answer)
 
 answered_anywhere : (guards limits : List ℕ) (n : ℕ) → Within guards limits (answered n)
 answered_anywhere guards limits n = record { low = omega arith; guard = λ e. omega arith; limit = λ no. omega arith }

@@ -2,7 +2,7 @@
 use Rattle.std.specs.Prelude.{ℕ, cond, List, [], ◌∷◌, eqb, ltb, length}
 use Rattle.laws.specs.Ladder.{unless}
 use Rattle.laws.specs.Below.{all_below}
-use Rattle.graph_tables.specs.Answers.{done_number}
+use Rattle.graph_tables.specs.Answers.{answer_number}
 use Rattle.run_steps.specs.Steps.{guard_fails}
 use Rattle.program_graph.specs.Running.{step_of}
 use Rattle.system_tables.specs.Words.{graph_count, graph_part}
@@ -29,7 +29,7 @@ why_by n why = cond (eqb n unsatisfied) why (answered n)
 
 unfoldable pub graph_why : List ℕ → List ℕ → ℕ → ℕ → List ℕ → ℕ → Found
 graph_why t s g a posts word =
-    why_by (done_number (step_of (graph_part t g) (run_of s g) a posts word).answer)
+    why_by (answer_number (step_of (graph_part t g) (run_of s g) a posts word).answer)
     (caused (graph_part t g) g (cause_of (graph_part t g) (run_of s g) a posts))
 
 -- ---- 17, 18 and 19 as a step

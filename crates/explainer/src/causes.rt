@@ -1,4 +1,4 @@
-// What is told of a step.
+// What is told of a step. The kinds of failure stay numbers: `why` tells them in words, and the theorems Real and Fails speak of them.
 // The process, its first candidate, what fails of it (run_steps::failures, or NO_CANDIDATE), and which limit or invariant that is. All 0 where
 // there is no cause.
 #[derive(Clone, Copy)]

@@ -1,9 +1,10 @@
 -- What a replay, a block that is written and a reason are in C (docs/RULES.md, 'Recordings' and 'Why a step answered 8'): a number, and the words that it
 -- tells or the bytes that it leaves.
-use Rattle.std.specs.Prelude.{ℕ, Bool, cond, List, [], ◌∷◌, eqb}
+use Rattle.std.specs.Prelude.{ℕ, Bool, cond, List, [], ◌∷◌, eqb, Ok, Err}
+use Rattle.replays.specs.declared.answers.ReplayError.TheVariants as ReplayError
+use Rattle.replays.specs.declared.answers.ReplayError.{ReplayError}
+use Rattle.std.specs.declared.result.Result.{Result}
 use Rattle.recordings.specs.Putting.{Put}
-use Rattle.replays.specs.declared.answers.Replayed.{Replayed}
-use Rattle.replays.specs.declared.answers.Replayed.TheVariants.{Finished, BadBlock, Differs, Refused}
 use Rattle.explainer.specs.Why.{unsatisfied}
 use Rattle.explainer.specs.declared.causes.Found.{Found}
 use Rattle.c_words.specs.Told.{Told, saying, refusing}
@@ -26,11 +27,11 @@ differs = 38
 abbrev pub finding : ℕ → List ℕ → Told
 finding n ws = record { number = n; words = ws }
 
-abbrev pub replay_told : Replayed → Told
-replay_told (Finished n) = saying (n ∷ 0 ∷ 0 ∷ 0 ∷ [])
-replay_told (BadBlock b) = finding bad_block (b ∷ 0 ∷ 0 ∷ 0 ∷ [])
-replay_told (Differs d) = finding differs (d.block ∷ d.entry ∷ d.recorded ∷ d.given ∷ [])
-replay_told (Refused r) = refusing r
+abbrev pub replay_told : Result ℕ ReplayError → Told
+replay_told (Ok n) = saying (n ∷ 0 ∷ 0 ∷ 0 ∷ [])
+replay_told (Err (ReplayError.BadBlock b)) = finding bad_block (b ∷ 0 ∷ 0 ∷ 0 ∷ [])
+replay_told (Err (ReplayError.Differs d)) = finding differs (d.block ∷ d.entry ∷ d.recorded ∷ d.given ∷ [])
+replay_told (Err (ReplayError.Refused r)) = refusing r
 
 -- ---- a block that is written: 36, and nothing is written, where the bytes are no block's, or have no room for the record, its posts or so many records
 abbrev pub written_number : Bool → ℕ

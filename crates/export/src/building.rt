@@ -27,7 +27,7 @@ pub fn njn_system_new_var(t: &mut [u64], pg: u32, kind: u64, payload: u64, out: 
         return given::MALFORMED;
     }
     let value = slots::value_of(kind, payload);
-    given::placed(on_graph::new_var(t, PgId(pg), value), out)
+    given::told(on_graph::new_var(t, PgId(pg), value), out)
 }
 
 pub fn njn_system_var_type(t: &[u64], pg: u32, var: u32, out: &mut [u64]) -> u32
@@ -36,7 +36,7 @@ pub fn njn_system_var_type(t: &[u64], pg: u32, var: u32, out: &mut [u64]) -> u32
     if out.len() < given::NUMBER {
         return given::SHORT;
     }
-    given::var_type(on_graph::var_type(t, PgId(pg), Var(var)), out)
+    given::told(on_graph::var_type(t, PgId(pg), Var(var)), out)
 }
 
 pub fn njn_system_new_clock(t: &mut [u64], pg: u32, out: &mut [u64]) -> u32
@@ -45,7 +45,7 @@ pub fn njn_system_new_clock(t: &mut [u64], pg: u32, out: &mut [u64]) -> u32
     if out.len() < given::NUMBER {
         return given::SHORT;
     }
-    given::placed(on_graph::new_clock(t, PgId(pg)), out)
+    given::told(on_graph::new_clock(t, PgId(pg)), out)
 }
 
 pub fn njn_system_new_action(t: &mut [u64], pg: u32, out: &mut [u64]) -> u32
@@ -54,7 +54,7 @@ pub fn njn_system_new_action(t: &mut [u64], pg: u32, out: &mut [u64]) -> u32
     if out.len() < given::NUMBER {
         return given::SHORT;
     }
-    given::placed(on_graph::new_action(t, PgId(pg)), out)
+    given::told(on_graph::new_action(t, PgId(pg)), out)
 }
 
 pub fn njn_system_add_reset(t: &mut [u64], pg: u32, action: u32, clock: u32) -> u32
@@ -84,7 +84,7 @@ pub fn njn_system_new_timed_location(
         return given::MALFORMED;
     }
     let limits = handed::limits_of(invariants);
-    given::placed(on_graph::new_timed_location(t, PgId(pg), limits), out)
+    given::told(on_graph::new_timed_location(t, PgId(pg), limits), out)
 }
 
 pub fn njn_system_new_process(t: &mut [u64], pg: u32, location: u32) -> u32
@@ -108,7 +108,7 @@ pub fn njn_system_new_initial_timed_location(
         return given::MALFORMED;
     }
     let limits = handed::limits_of(invariants);
-    given::placed(
+    given::told(
         on_graph::new_initial_timed_location(t, PgId(pg), limits),
         out,
     )
@@ -158,7 +158,7 @@ pub fn njn_system_new_send<'a>(
     if out.len() < given::NUMBER {
         return given::SHORT;
     }
-    given::placed(
+    given::told(
         messages::new_send(t, PgId(pg), Channel(channel), count, w, x, y, z),
         out,
     )
@@ -176,7 +176,7 @@ pub fn njn_system_new_receive(
     if out.len() < given::NUMBER {
         return given::SHORT;
     }
-    given::placed(
+    given::told(
         messages::new_receive(t, PgId(pg), Channel(channel), handed::vars_of(vars)),
         out,
     )
@@ -193,7 +193,7 @@ pub fn njn_system_new_probe_empty_queue(
     if out.len() < given::NUMBER {
         return given::SHORT;
     }
-    given::placed(
+    given::told(
         messages::new_probe_empty_queue(t, PgId(pg), Channel(channel)),
         out,
     )
@@ -205,7 +205,7 @@ pub fn njn_system_new_probe_full_queue(t: &mut [u64], pg: u32, channel: u32, out
     if out.len() < given::NUMBER {
         return given::SHORT;
     }
-    given::placed(
+    given::told(
         messages::new_probe_full_queue(t, PgId(pg), Channel(channel)),
         out,
     )

@@ -28,7 +28,7 @@ pub fn njn_graph_new_var(t: &mut [u64], kind: u64, payload: u64, out: &mut [u64]
         return given::MALFORMED;
     }
     let value = slots::value_of(kind, payload);
-    given::placed(graph_builder::new_var(t, value), out)
+    given::told(graph_builder::new_var(t, value), out)
 }
 
 pub fn njn_graph_var_type(t: &[u64], var: u32, out: &mut [u64]) -> u32
@@ -37,7 +37,7 @@ pub fn njn_graph_var_type(t: &[u64], var: u32, out: &mut [u64]) -> u32
     if out.len() < given::NUMBER {
         return given::SHORT;
     }
-    given::var_type(graph_builder::var_type(t, Var(var)), out)
+    given::told(graph_builder::var_type(t, Var(var)), out)
 }
 
 pub fn njn_graph_new_clock(t: &mut [u64], out: &mut [u64]) -> u32
@@ -46,7 +46,7 @@ pub fn njn_graph_new_clock(t: &mut [u64], out: &mut [u64]) -> u32
     if out.len() < given::NUMBER {
         return given::SHORT;
     }
-    given::placed(graph_builder::new_clock(t), out)
+    given::told(graph_builder::new_clock(t), out)
 }
 
 pub fn njn_graph_new_action(t: &mut [u64], out: &mut [u64]) -> u32
@@ -55,7 +55,7 @@ pub fn njn_graph_new_action(t: &mut [u64], out: &mut [u64]) -> u32
     if out.len() < given::NUMBER {
         return given::SHORT;
     }
-    given::placed(graph_builder::new_action(t), out)
+    given::told(graph_builder::new_action(t), out)
 }
 
 pub fn njn_graph_add_reset(t: &mut [u64], action: u32, clock: u32) -> u32
@@ -84,7 +84,7 @@ pub fn njn_graph_new_send<'a>(
     if out.len() < given::NUMBER {
         return given::SHORT;
     }
-    given::placed(graph_builder::new_send(t, count, w, x, y, z), out)
+    given::told(graph_builder::new_send(t, count, w, x, y, z), out)
 }
 
 pub fn njn_graph_new_receive(t: &mut [u64], vars: &[u32], out: &mut [u64]) -> u32
@@ -93,7 +93,7 @@ pub fn njn_graph_new_receive(t: &mut [u64], vars: &[u32], out: &mut [u64]) -> u3
     if out.len() < given::NUMBER {
         return given::SHORT;
     }
-    given::placed(graph_builder::new_receive(t, handed::vars_of(vars)), out)
+    given::told(graph_builder::new_receive(t, handed::vars_of(vars)), out)
 }
 
 pub fn njn_graph_new_timed_location(t: &mut [u64], invariants: &[u64], out: &mut [u64]) -> u32
@@ -106,7 +106,7 @@ pub fn njn_graph_new_timed_location(t: &mut [u64], invariants: &[u64], out: &mut
         return given::MALFORMED;
     }
     let limits = handed::limits_of(invariants);
-    given::placed(graph_builder::new_timed_location(t, limits), out)
+    given::told(graph_builder::new_timed_location(t, limits), out)
 }
 
 pub fn njn_graph_new_process(t: &mut [u64], location: u32) -> u32
@@ -129,7 +129,7 @@ pub fn njn_graph_new_initial_timed_location(
         return given::MALFORMED;
     }
     let limits = handed::limits_of(invariants);
-    given::placed(graph_builder::new_initial_timed_location(t, limits), out)
+    given::told(graph_builder::new_initial_timed_location(t, limits), out)
 }
 
 pub fn njn_graph_add_timed_transition(

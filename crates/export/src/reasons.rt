@@ -44,12 +44,17 @@ fn found(found: Found, out: &mut [u64]) -> u32
     }
     let cause = found.cause;
     let part = found.part;
-    values::put(out, 0, cause.process as u64);
-    values::put(out, 1, cause.transition as u64);
-    values::put(out, 2, cause.failing);
-    values::put(out, 3, cause.number as u64);
-    values::put(out, 4, part.start as u64);
-    values::put(out, 5, part.length as u64);
+    values::put_all(
+        out,
+        &[
+            cause.process as u64,
+            cause.transition as u64,
+            cause.failing,
+            cause.number as u64,
+            part.start as u64,
+            part.length as u64,
+        ],
+    );
     answer
 }
 

@@ -6,10 +6,10 @@ ghost use Rattle.c_words.specs.Given.{answering, Gives};
 ghost use Rattle.export.specs.Findings.{replay_words, replay_told};
 
 use c_words::inner::{given, values};
-use replays::answers::Replayed;
+use replays::answers::ReplayError;
 use replays::run;
 
-// Numbers behind those of the calls: a block is bad, a record answers otherwise than it says.
+// Numbers behind those of the calls, as C is told them: a block is bad, a record answers otherwise than it says.
 const BAD_BLOCK: u32 = 37;
 
 const DIFFERS: u32 = 38;
@@ -24,32 +24,23 @@ pub fn njn_replay_words() -> usize
 }
 
 // All four are written where a replay ran, to its end or to a finding.
-fn replayed(answer: Replayed, out: &mut [u64]) -> u32
+fn replayed(answer: Result<u64, ReplayError>, out: &mut [u64]) -> u32
     ensures { Says result out.new out.old (replay_told answer) }
 {
     match answer {
-        Replayed::Finished(n) => {
-            values::put(out, 0, n);
-            values::put(out, 1, 0);
-            values::put(out, 2, 0);
-            values::put(out, 3, 0);
+        Ok(n) => {
+            values::put_all(out, &[n, 0, 0, 0]);
             0
         }
-        Replayed::BadBlock(b) => {
-            values::put(out, 0, b);
-            values::put(out, 1, 0);
-            values::put(out, 2, 0);
-            values::put(out, 3, 0);
+        Err(ReplayError::BadBlock(b)) => {
+            values::put_all(out, &[b, 0, 0, 0]);
             BAD_BLOCK
         }
-        Replayed::Differs(d) => {
-            values::put(out, 0, d.block);
-            values::put(out, 1, d.entry);
-            values::put(out, 2, d.recorded as u64);
-            values::put(out, 3, d.given as u64);
+        Err(ReplayError::Differs(d)) => {
+            values::put_all(out, &[d.block, d.entry, d.recorded as u64, d.given as u64]);
             DIFFERS
         }
-        Replayed::Refused(r) => r.number(),
+        Err(ReplayError::Refused(r)) => r.number(),
     }
 }
 

@@ -35,7 +35,7 @@ pub fn njn_state_transition(
         return given::SHORT;
     }
     let by = Action(PgId(owner), graph_tables::ids::Action(action));
-    given::event(run::transition(t, s, PgId(pg), by, posts, word), out)
+    given::told(run::transition(t, s, PgId(pg), by, posts, word), out)
 }
 
 pub fn njn_state_wait(t: &[u64], s: &mut [u64], delta: u32, out: &mut [u64]) -> u32
@@ -53,7 +53,7 @@ pub fn njn_state_can_wait(t: &[u64], s: &[u64], delta: u32, out: &mut [u64]) -> 
     if out.len() < given::NUMBER {
         return given::SHORT;
     }
-    given::held(run::can_wait(t, s, delta), out)
+    given::told(run::can_wait(t, s, delta), out)
 }
 
 pub fn njn_state_is_waiting(t: &[u64], s: &[u64], out: &mut [u64]) -> u32
@@ -62,7 +62,7 @@ pub fn njn_state_is_waiting(t: &[u64], s: &[u64], out: &mut [u64]) -> u32
     if out.len() < given::NUMBER {
         return given::SHORT;
     }
-    given::held(run::is_waiting(t, s), out)
+    given::told(run::is_waiting(t, s), out)
 }
 
 pub fn njn_state_possible_transitions(t: &[u64], s: &[u64], k: usize, out: &mut [u64]) -> u32
@@ -71,7 +71,7 @@ pub fn njn_state_possible_transitions(t: &[u64], s: &[u64], k: usize, out: &mut 
     if out.len() < given::GRAPH_ENTRY {
         return given::SHORT;
     }
-    given::graph_entry(transitions::possible_transitions(t, s, k), out)
+    given::told(transitions::possible_transitions(t, s, k), out)
 }
 
 pub fn njn_state_possible_transitions_pg(
@@ -86,7 +86,7 @@ pub fn njn_state_possible_transitions_pg(
     if out.len() < given::ENTRY {
         return given::SHORT;
     }
-    given::entry(transitions::possible_transitions_pg(t, s, PgId(pg), k), out)
+    given::told(transitions::possible_transitions_pg(t, s, PgId(pg), k), out)
 }
 
 pub fn njn_state_nosync_possible_transitions_pg(
@@ -101,7 +101,7 @@ pub fn njn_state_nosync_possible_transitions_pg(
     if out.len() < given::ENTRY {
         return given::SHORT;
     }
-    given::entry(
+    given::told(
         transitions::nosync_possible_transitions_pg(t, s, PgId(pg), k),
         out,
     )
@@ -113,7 +113,7 @@ pub fn njn_state_time(t: &[u64], s: &[u64], out: &mut [u64]) -> u32
     if out.len() < given::NUMBER {
         return given::SHORT;
     }
-    given::time(readers::time(t, s), out)
+    given::told(readers::time(t, s), out)
 }
 
 pub fn njn_state_queue_length(t: &[u64], s: &[u64], channel: u32, out: &mut [u64]) -> u32
@@ -122,7 +122,7 @@ pub fn njn_state_queue_length(t: &[u64], s: &[u64], channel: u32, out: &mut [u64
     if out.len() < given::NUMBER {
         return given::SHORT;
     }
-    given::length(readers::queue_length(t, s, Channel(channel)), out)
+    given::told(readers::queue_length(t, s, Channel(channel)), out)
 }
 
 pub fn njn_state_queue_value(t: &[u64], s: &[u64], channel: u32, k: usize, out: &mut [u64]) -> u32
@@ -131,5 +131,5 @@ pub fn njn_state_queue_value(t: &[u64], s: &[u64], channel: u32, k: usize, out: 
     if out.len() < given::QUEUED {
         return given::SHORT;
     }
-    given::queued(readers::queue_value(t, s, Channel(channel), k), out)
+    given::told(readers::queue_value(t, s, Channel(channel), k), out)
 }

@@ -48,7 +48,7 @@ pub fn njn_run_can_wait(t: &[u64], r: &[u64], delta: u32, out: &mut [u64]) -> u3
     if out.len() < given::NUMBER {
         return given::SHORT;
     }
-    given::held(lent::can_wait(t, r, delta), out)
+    given::told(lent::can_wait(t, r, delta), out)
 }
 
 pub fn njn_run_is_waiting(t: &[u64], r: &[u64], out: &mut [u64]) -> u32
@@ -57,7 +57,7 @@ pub fn njn_run_is_waiting(t: &[u64], r: &[u64], out: &mut [u64]) -> u32
     if out.len() < given::NUMBER {
         return given::SHORT;
     }
-    given::held(lent::is_waiting(t, r), out)
+    given::told(lent::is_waiting(t, r), out)
 }
 
 pub fn njn_run_possible_transitions(t: &[u64], r: &[u64], k: usize, out: &mut [u64]) -> u32
@@ -66,7 +66,7 @@ pub fn njn_run_possible_transitions(t: &[u64], r: &[u64], k: usize, out: &mut [u
     if out.len() < given::ENTRY {
         return given::SHORT;
     }
-    given::entry(lent::possible_transitions(t, r, k), out)
+    given::told(lent::possible_transitions(t, r, k), out)
 }
 
 pub fn njn_run_nosync_possible_transitions(t: &[u64], r: &[u64], k: usize, out: &mut [u64]) -> u32
@@ -75,7 +75,7 @@ pub fn njn_run_nosync_possible_transitions(t: &[u64], r: &[u64], k: usize, out: 
     if out.len() < given::ENTRY {
         return given::SHORT;
     }
-    given::entry(lent::nosync_possible_transitions(t, r, k), out)
+    given::told(lent::nosync_possible_transitions(t, r, k), out)
 }
 
 pub fn njn_run_send(
@@ -94,10 +94,7 @@ pub fn njn_run_send(
     if out.len() < given::MESSAGE {
         return given::SHORT;
     }
-    let said = lent::send(t, r, action, posts, word);
-    let answer = said.answer;
-    let message = said.message;
-    given::message(answer, message, out)
+    given::message(lent::send(t, r, action, posts, word), out)
 }
 
 pub fn njn_run_value(t: &[u64], r: &[u64], var: u32, out: &mut [u64]) -> u32
@@ -106,7 +103,7 @@ pub fn njn_run_value(t: &[u64], r: &[u64], var: u32, out: &mut [u64]) -> u32
     if out.len() < given::VALUE {
         return given::SHORT;
     }
-    given::value(lent::value(t, r, var), out)
+    given::told(lent::value(t, r, var), out)
 }
 
 pub fn njn_run_time(t: &[u64], r: &[u64], clock: u32, out: &mut [u64]) -> u32
@@ -115,7 +112,7 @@ pub fn njn_run_time(t: &[u64], r: &[u64], clock: u32, out: &mut [u64]) -> u32
     if out.len() < given::NUMBER {
         return given::SHORT;
     }
-    lent::time(t, r, clock, out)
+    given::told(lent::time(t, r, clock), out)
 }
 
 pub fn njn_run_current_states(t: &[u64], r: &[u64], out: &mut [u64]) -> u32

@@ -21,7 +21,7 @@ pub fn njn_system_new_program_graph(t: &mut [u64], out: &mut [u64]) -> u32
     if out.len() < given::NUMBER {
         return given::SHORT;
     }
-    given::placed(system_builder::new_program_graph(t), out)
+    given::told(system_builder::new_program_graph(t), out)
 }
 
 pub fn njn_system_new_channel(
@@ -41,7 +41,7 @@ pub fn njn_system_new_channel(
     }
     let read = handed::kinds_of(kinds);
     let capacity = handed::capacity_of(sort, bound);
-    given::placed(system_builder::new_channel(t, read, capacity), out)
+    given::told(system_builder::new_channel(t, read, capacity), out)
 }
 
 pub fn njn_system_channel(t: &[u64], channel: u32, out: &mut [u64]) -> u32

@@ -17,7 +17,7 @@ use Rattle.grammar.specs.declared.values.«Type».{«Type» as Kind}
 use Rattle.grammar.specs.declared.values.Slot.{Slot}
 use Rattle.grammar.specs.declared.items.Item.TheVariants as Item
 use Rattle.grammar.specs.declared.typing.Typed.TheVariants as Typed
-use Rattle.grammar.specs.declared.evaluation.Evaluated.TheVariants.{Known, NoValue}
+use Rattle.std.specs.Prelude.{Some, None}
 use Rattle.grammar.proofs.IllLaws.{Ill, ill_before, ill_pushed, never_ill}
 
 module _ (kinds : List ℕ) (vars others : List Slot) (same : (v : ℕ) → v < length kinds → get_or vars v blank ≡ get_or others v blank) where
@@ -26,7 +26,7 @@ module _ (kinds : List ℕ) (vars others : List Slot) (same : (v : ℕ) → v < 
   SameStep r = ((left : ℕ) → value_step vars left r ≡ value_step others left r) ⊎ (kind_step kinds r ≡ push ill)
 
   same_variable : (n : ℕ) → Dec (n < length kinds) → SameStep (item (Item.Variable n))
-  same_variable n (yes h) = inl (λ left. ap (λ (s : Slot). push (cond (ltb n 16) (Known s.value) NoValue)) (same n h))
+  same_variable n (yes h) = inl (λ left. ap (λ (s : Slot). push (cond (ltb n 16) (Some s.value) None)) (same n h))
   same_variable n (no h) = inr (ap (λ (k : ℕ). push (kinded_at k)) (get_or-eq_default kinds 2 (omega arith)))
 
   same_step : (r : Read) → SameStep r

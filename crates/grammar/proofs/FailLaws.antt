@@ -23,24 +23,23 @@ use Rattle.grammar.specs.declared.items.Unary.TheVariants.{Not, Negate}
 use Rattle.grammar.specs.declared.items.Binary.{Binary}
 use Rattle.grammar.specs.declared.items.Binary.TheVariants.{And, Or, Add, Subtract, Multiply, Divide, Remainder, Equal, Less}
 use Rattle.grammar.specs.declared.items.Binary.TheVariants.{LessOrEqual}
-use Rattle.grammar.specs.declared.evaluation.Evaluated.{Evaluated}
-use Rattle.grammar.specs.declared.evaluation.Evaluated.TheVariants.{Known, NoValue}
+use Rattle.std.specs.Prelude.{Option, Some, None}
 use Rattle.grammar.proofs.Sound.{Of, Fit}
 
 -- a new operand is ill-typed; or it has no value, and F holds; or it has a value of its kind, and F does not hold
-pub data Result (e : Evaluated) (k : Kinded) (F : Type 0) : Type 0 where
+pub data Result (e : Option Val) (k : Kinded) (F : Type 0) : Type 0 where
   bad : k ≡ ill → Result e k F
-  fails : e ≡ NoValue → F → Result e k F
-  has : (v : Val) → e ≡ Known v → k ≡ of (kind_of v) → (F → ⊥) → Result e k F
+  fails : e ≡ None → F → Result e k F
+  has : (v : Val) → e ≡ Some v → k ≡ of (kind_of v) → (F → ⊥) → Result e k F
 
-pub same_result : {e : Evaluated} {k : Kinded} {F G : Type 0} → (F → G) → (G → F) → Result e k F → Result e k G
+pub same_result : {e : Option Val} {k : Kinded} {F G : Type 0} → (F → G) → (G → F) → Result e k F → Result e k G
 same_result f g (bad b) = bad b
 same_result f g (fails e h) = fails e (f h)
 same_result f g (has v e k n) = has v e k (λ h. n (g h))
 
 -- ---- integers
 fit_by : (s t : Bool) (z : ℤ)
-    → Result (cond s NoValue (cond t NoValue (Known (Integer z)))) (of Kind.Integer) ((s ≡ true) ⊎ (t ≡ true))
+    → Result (cond s None (cond t None (Some (Integer z)))) (of Kind.Integer) ((s ≡ true) ⊎ (t ≡ true))
 fit_by true t z = fails refl (inl refl)
 fit_by false true z = fails refl (inr refl)
 fit_by false false z = has (Integer z) refl refl neither
@@ -56,7 +55,7 @@ right : {A B : Type 0} → (A → ⊥) → A ⊎ B → B
 right n (inl a) = absurd (n a)
 right n (inr b) = b
 
-divided_result : (b z : ℤ) → Result (cond (is_zero b) NoValue (fitted z)) (of Kind.Integer) ((b ≡ pos 0) ⊎ Outside z)
+divided_result : (b z : ℤ) → Result (cond (is_zero b) None (fitted z)) (of Kind.Integer) ((b ≡ pos 0) ⊎ Outside z)
 divided_result (pos zero) z = fails refl (inl refl)
 divided_result (pos (suc n)) z = rw (ne_eqb (suc n) 0 (λ e. omega arith)) (same_result inr (right other) (fitted_result z))
   where
@@ -67,7 +66,7 @@ divided_result (negsuc n) z = same_result inr (right other) (fitted_result z)
     other : negsuc n ≡ pos 0 → ⊥
     other e = let z : ◌≡◌ {A = ℕ} 0 1 = cc in absurd (omega arith)
 
-ints_result : (f : ℤ → ℤ → Evaluated) (r : Kind) (F : ℤ → ℤ → Type 0) → ((x y : ℤ) → Result (f x y) (of r) (F x y)) → (a b : Val)
+ints_result : (f : ℤ → ℤ → Option Val) (r : Kind) (F : ℤ → ℤ → Type 0) → ((x y : ℤ) → Result (f x y) (of r) (F x y)) → (a b : Val)
     → Result (ints f a b) (takes2 Kind.Integer r (of (kind_of a)) (of (kind_of b))) (PairFails F a b)
 ints_result f r F ok (Integer x) (Integer y) = ok x y
 ints_result f r F ok (Integer x) (Boolean y) = bad refl
@@ -104,11 +103,11 @@ binary_result Less a b =
 binary_result LessOrEqual a b =
     ints_result (λ x y. boolean (le_z x y)) Kind.Boolean (IntegersFail LessOrEqual) (λ x y. has (Boolean (le_z x y)) refl refl (λ h. h)) a b
 
-pub not_result : (a : Val) → Result (unary_of Not (Known a)) (unary_kind Not (of (kind_of a))) ⊥
+pub not_result : (a : Val) → Result (unary_of Not (Some a)) (unary_kind Not (of (kind_of a))) ⊥
 not_result (Boolean x) = has (Boolean (not x)) refl refl (λ h. h)
 not_result (Integer x) = bad refl
 
-pub negate_result : (a : Val) → Result (unary_of Negate (Known a)) (unary_kind Negate (of (kind_of a))) (NegationFails a)
+pub negate_result : (a : Val) → Result (unary_of Negate (Some a)) (unary_kind Negate (of (kind_of a))) (NegationFails a)
 negate_result (Integer x) = fitted_result (pos 0 -ℤ x)
 negate_result (Boolean x) = bad refl
 
@@ -118,7 +117,7 @@ past [] n d h = refl
 past (x ∷ xs) zero d h = absurd (omega arith)
 past (x ∷ xs) (suc n) d h = past xs n d (omega arith)
 
-held : (v : Val) (k : Kinded) → Of (Known v) k → Result (Known v) k ⊥
+held : (v : Val) (k : Kinded) → Of (Some v) k → Result (Some v) k ⊥
 held v (of j) h = has v refl (ap of (sym h)) (λ x. x)
 held v ill h = bad refl
 
@@ -129,8 +128,8 @@ variable_result vars kinds fit few n = by (dec_lt n 16)
   where
     by : Dec (n < 16) → Result (variable_of vars n) (variable_kind kinds n) ⊥
     by (yes l) =
-        let e : variable_of vars n ≡ Known (get_or vars n blank).value =
-        ap (λ (t : Bool). cond t (Known (get_or vars n blank).value) NoValue) (lt-ltb n 16 l) in
-        subst (λ (x : Evaluated). Result x (variable_kind kinds n) ⊥) (sym e)
-        (held (get_or vars n blank).value (variable_kind kinds n) (subst (λ (x : Evaluated). Of x (variable_kind kinds n)) e (fit n)))
+        let e : variable_of vars n ≡ Some (get_or vars n blank).value =
+        ap (λ (t : Bool). cond t (Some (get_or vars n blank).value) None) (lt-ltb n 16 l) in
+        subst (λ (x : Option Val). Result x (variable_kind kinds n) ⊥) (sym e)
+        (held (get_or vars n blank).value (variable_kind kinds n) (subst (λ (x : Option Val). Of x (variable_kind kinds n)) e (fit n)))
     by (no l) = bad (ap kinded_at (past kinds n 2 (omega arith)))

@@ -29,8 +29,8 @@ use Rattle.grammar.specs.declared.items.Binary.{Binary}
 use Rattle.grammar.specs.declared.items.Binary.TheVariants.{And, Or, Add, Subtract, Multiply, Divide, Remainder}
 use Rattle.grammar.specs.declared.items.Binary.TheVariants.{Equal, Less, LessOrEqual}
 use Rattle.grammar.specs.declared.items.Item.TheVariants as Item
-use Rattle.grammar.specs.declared.evaluation.Evaluated.{Evaluated}
-use Rattle.grammar.specs.declared.evaluation.Evaluated.TheVariants.{Known, NoValue}
+use Rattle.std.specs.Prelude.{Option, Some, None}
+use Rattle.grammar.specs.declared.values.Val.{Val}
 use Rattle.grammar.proofs.BitLaws.{from_low, from_high}
 use Rattle.grammar.proofs.Signed.{between}
 use Rattle.grammar.proofs.ItemLaws.{low_any, high}
@@ -59,24 +59,24 @@ slots_fit (k ∷ p ∷ ws) zero = words_fit k p
 slots_fit (k ∷ p ∷ ws) (suc n) = slots_fit ws n
 
 -- ---- no value, or one that a program holds
-abbrev pub FitEvaluated : Evaluated → Type 0
-FitEvaluated NoValue = Unit {0}
-FitEvaluated (Known v) = FitVal v
+abbrev pub FitEvaluated : Option Val → Type 0
+FitEvaluated None = Unit {0}
+FitEvaluated (Some v) = FitVal v
 
-abbrev Keeps : Step Evaluated → Type 0
+abbrev Keeps : Step (Option Val) → Type 0
 Keeps (push v) = FitEvaluated v
-Keeps (change f) = (v : Evaluated) → FitEvaluated v → FitEvaluated (f v)
-Keeps (join f) = (v w : Evaluated) → FitEvaluated v → FitEvaluated w → FitEvaluated (f v w)
+Keeps (change f) = (v : Option Val) → FitEvaluated v → FitEvaluated (f v)
+Keeps (join f) = (v w : Option Val) → FitEvaluated v → FitEvaluated w → FitEvaluated (f v w)
 
-abbrev AllKeep : List (Step Evaluated) → Type 0
+abbrev AllKeep : List (Step (Option Val)) → Type 0
 AllKeep [] = Unit {0}
 AllKeep (s ∷ steps) = Keeps s × AllKeep steps
 
-abbrev AllFit : List Evaluated → Type 0
+abbrev AllFit : List (Option Val) → Type 0
 AllFit [] = Unit {0}
 AllFit (v ∷ waiting) = FitEvaluated v × AllFit waiting
 
-run_fits_lem : (steps : List (Step Evaluated)) (waiting : List Evaluated) → AllKeep steps → AllFit waiting
+run_fits_lem : (steps : List (Step (Option Val))) (waiting : List (Option Val)) → AllKeep steps → AllFit waiting
     → FitEvaluated (result_of (run_of steps waiting))
 unfolding run_of
 run_fits_lem [] [] k a = tt
@@ -94,31 +94,31 @@ fitted_fits : (z : ℤ) → FitEvaluated (fitted z)
 unfolding FitVal
 fitted_fits z = by (lt_z z least) (lt_z most z) refl refl
   where
-    by : (a b : Bool) → lt_z z least ≡ a → lt_z most z ≡ b → FitEvaluated (cond a NoValue (cond b NoValue (Known (Integer z))))
+    by : (a b : Bool) → lt_z z least ≡ a → lt_z most z ≡ b → FitEvaluated (cond a None (cond b None (Some (Integer z))))
     by true b e f = tt
     by false true e f = tt
     by false false e f = between z e f
 
-divided_fits : (t : Bool) (z : ℤ) → FitEvaluated (cond t NoValue (fitted z))
+divided_fits : (t : Bool) (z : ℤ) → FitEvaluated (cond t None (fitted z))
 divided_fits true z = tt
 divided_fits false z = fitted_fits z
 
-ints_fit : (f : ℤ → ℤ → Evaluated) → ((x y : ℤ) → FitEvaluated (f x y)) → (v w : Evaluated) → FitEvaluated (strict2 (ints f) v w)
-ints_fit f ok (Known (Integer x)) (Known (Integer y)) = ok x y
-ints_fit f ok (Known (Integer x)) (Known (Boolean y)) = tt
-ints_fit f ok (Known (Boolean x)) (Known w) = tt
-ints_fit f ok (Known v) NoValue = tt
-ints_fit f ok NoValue w = tt
+ints_fit : (f : ℤ → ℤ → Option Val) → ((x y : ℤ) → FitEvaluated (f x y)) → (v w : Option Val) → FitEvaluated (strict2 (ints f) v w)
+ints_fit f ok (Some (Integer x)) (Some (Integer y)) = ok x y
+ints_fit f ok (Some (Integer x)) (Some (Boolean y)) = tt
+ints_fit f ok (Some (Boolean x)) (Some w) = tt
+ints_fit f ok (Some v) None = tt
+ints_fit f ok None w = tt
 
-bools_fit : (f : Bool → Bool → Bool) (v w : Evaluated) → FitEvaluated (strict2 (bools f) v w)
+bools_fit : (f : Bool → Bool → Bool) (v w : Option Val) → FitEvaluated (strict2 (bools f) v w)
 unfolding FitVal
-bools_fit f (Known (Boolean x)) (Known (Boolean y)) = tt
-bools_fit f (Known (Boolean x)) (Known (Integer y)) = tt
-bools_fit f (Known (Integer x)) (Known w) = tt
-bools_fit f (Known v) NoValue = tt
-bools_fit f NoValue w = tt
+bools_fit f (Some (Boolean x)) (Some (Boolean y)) = tt
+bools_fit f (Some (Boolean x)) (Some (Integer y)) = tt
+bools_fit f (Some (Integer x)) (Some w) = tt
+bools_fit f (Some v) None = tt
+bools_fit f None w = tt
 
-binary_fits : (o : Binary) (v w : Evaluated) → FitEvaluated (binary_of o v w)
+binary_fits : (o : Binary) (v w : Option Val) → FitEvaluated (binary_of o v w)
 unfolding FitVal
 binary_fits And v w = bools_fit _ v w
 binary_fits Or v w = bools_fit _ v w
@@ -127,23 +127,23 @@ binary_fits Subtract v w = ints_fit _ (λ x y. fitted_fits (x -ℤ y)) v w
 binary_fits Multiply v w = ints_fit _ (λ x y. fitted_fits (x *ℤ y)) v w
 binary_fits Divide v w = ints_fit _ (λ x y. divided_fits (is_zero y) (quot_z x y)) v w
 binary_fits Remainder v w = ints_fit _ (λ x y. divided_fits (is_zero y) (rem_z x y)) v w
-binary_fits Equal (Known (Boolean x)) (Known (Boolean y)) = tt
-binary_fits Equal (Known (Boolean x)) (Known (Integer y)) = tt
-binary_fits Equal (Known (Integer x)) (Known (Integer y)) = tt
-binary_fits Equal (Known (Integer x)) (Known (Boolean y)) = tt
-binary_fits Equal (Known v) NoValue = tt
-binary_fits Equal NoValue w = tt
+binary_fits Equal (Some (Boolean x)) (Some (Boolean y)) = tt
+binary_fits Equal (Some (Boolean x)) (Some (Integer y)) = tt
+binary_fits Equal (Some (Integer x)) (Some (Integer y)) = tt
+binary_fits Equal (Some (Integer x)) (Some (Boolean y)) = tt
+binary_fits Equal (Some v) None = tt
+binary_fits Equal None w = tt
 binary_fits Less v w = ints_fit _ (λ x y. tt) v w
 binary_fits LessOrEqual v w = ints_fit _ (λ x y. tt) v w
 
-unary_fits : (u : Unary) (v : Evaluated) → FitEvaluated (unary_of u v)
+unary_fits : (u : Unary) (v : Option Val) → FitEvaluated (unary_of u v)
 unfolding FitVal
-unary_fits Not (Known (Boolean x)) = tt
-unary_fits Not (Known (Integer x)) = tt
-unary_fits Not NoValue = tt
-unary_fits Negate (Known (Integer x)) = fitted_fits (pos 0 -ℤ x)
-unary_fits Negate (Known (Boolean x)) = tt
-unary_fits Negate NoValue = tt
+unary_fits Not (Some (Boolean x)) = tt
+unary_fits Not (Some (Integer x)) = tt
+unary_fits Not None = tt
+unary_fits Negate (Some (Integer x)) = fitted_fits (pos 0 -ℤ x)
+unary_fits Negate (Some (Boolean x)) = tt
+unary_fits Negate None = tt
 
 -- ---- each item: a constant is one that a program holds
 abbrev FitRead : Read → Type 0
@@ -196,7 +196,7 @@ module _ (vars : List Slot) (fit : (n : ℕ) → FitVal (get_or vars n blank).va
   read_keeps left (item (Item.Constant v)) h = h
   read_keeps left (item (Item.Variable n)) h = by (ltb n 16)
     where
-      by : (t : Bool) → FitEvaluated (cond t (Known (get_or vars n blank).value) NoValue)
+      by : (t : Bool) → FitEvaluated (cond t (Some (get_or vars n blank).value) None)
       by true = fit n
       by false = tt
   read_keeps left (item (Item.Unary u)) h = λ v k. unary_fits u v
@@ -212,7 +212,7 @@ module _ (vars : List Slot) (fit : (n : ℕ) → FitVal (get_or vars n blank).va
   value_fits_lem : (word : ℕ) (ws : List ℕ) → FitEvaluated (value_of vars word ws)
   unfolding value_of
   value_fits_lem word ws =
-      rung FitEvaluated (leb (deepest ws 0) 16) NoValue (result_of (run_of (value_steps vars word ws) [])) tt
+      rung FitEvaluated (leb (deepest ws 0) 16) None (result_of (run_of (value_steps vars word ws) [])) tt
       (λ e. run_fits_lem (value_steps vars word ws) [] (steps_keep ws word) tt)
 
   -- what an expression gives is such as a program holds

@@ -18,20 +18,19 @@ use Rattle.grammar.specs.declared.values.Slot.{Slot}
 use Rattle.grammar.specs.declared.items.Binary.TheVariants.{And, Or, Add, Subtract, Multiply, Divide, Remainder, Equal, Less}
 use Rattle.grammar.specs.declared.items.Binary.TheVariants.{LessOrEqual}
 use Rattle.grammar.specs.declared.items.Item.TheVariants as Item
-use Rattle.grammar.specs.declared.evaluation.Evaluated.{Evaluated}
-use Rattle.grammar.specs.declared.evaluation.Evaluated.TheVariants.{Known, NoValue}
+use Rattle.std.specs.Prelude.{Option, Some, None}
 use Rattle.grammar.proofs.ItemLaws.{high, operand_any, word_any, low_any}
 
 -- none of 5 to 12: no operation on integers
 pub no_integers : (a b : ℤ) (w : ℕ)
     → ((((((((Unit {0} × (w ≡ 5 → ⊥)) × (w ≡ 6 → ⊥)) × (w ≡ 7 → ⊥)) × (w ≡ 8 → ⊥)) × (w ≡ 9 → ⊥)) × (w ≡ 10 → ⊥)) × (w ≡ 11 → ⊥))
     × (w ≡ 12 → ⊥))
-    → NoValue ≡ values_on (item_of w) (Integer a) (Integer b)
+    → None ≡ values_on (item_of w) (Integer a) (Integer b)
 unfolding values_on
 no_integers a b =
     word_any
     (λ (w : ℕ) (r : Read). ((((((((Unit {0} × (w ≡ 5 → ⊥)) × (w ≡ 6 → ⊥)) × (w ≡ 7 → ⊥)) × (w ≡ 8 → ⊥)) × (w ≡ 9 → ⊥)) × (w ≡ 10 → ⊥)) × (w
-    ≡ 11 → ⊥)) × (w ≡ 12 → ⊥)) → NoValue ≡ values_on r (Integer a) (Integer b)) (
+    ≡ 11 → ⊥)) × (w ≡ 12 → ⊥)) → None ≡ values_on r (Integer a) (Integer b)) (
       (λ n. refl),
       (
         (λ n. refl),
@@ -66,11 +65,11 @@ no_integers a b =
 
 -- none of 2, 3 and 10: no operation on booleans
 pub no_booleans : (a b : Bool) (w : ℕ) → (((Unit {0} × (w ≡ 2 → ⊥)) × (w ≡ 3 → ⊥)) × (w ≡ 10 → ⊥))
-    → NoValue ≡ values_on (item_of w) (Boolean a) (Boolean b)
+    → None ≡ values_on (item_of w) (Boolean a) (Boolean b)
 unfolding values_on
 no_booleans a b =
     word_any
-    (λ (w : ℕ) (r : Read). (((Unit {0} × (w ≡ 2 → ⊥)) × (w ≡ 3 → ⊥)) × (w ≡ 10 → ⊥)) → NoValue ≡ values_on r (Boolean a) (Boolean b)) (
+    (λ (w : ℕ) (r : Read). (((Unit {0} × (w ≡ 2 → ⊥)) × (w ≡ 3 → ⊥)) × (w ≡ 10 → ⊥)) → None ≡ values_on r (Boolean a) (Boolean b)) (
       (λ n. refl),
       (
         (λ n. refl),
@@ -95,7 +94,7 @@ no_booleans a b =
     (λ w v n. refl) (λ w k n. refl) (λ w n. refl)
 
 -- no operation takes two kinds
-pub integer_boolean : (r : Read) (a : ℤ) (b : Bool) → NoValue ≡ values_on r (Integer a) (Boolean b)
+pub integer_boolean : (r : Read) (a : ℤ) (b : Bool) → None ≡ values_on r (Integer a) (Boolean b)
 unfolding values_on
 integer_boolean (item (Item.Binary And)) a b = refl
 integer_boolean (item (Item.Binary Or)) a b = refl
@@ -113,7 +112,7 @@ integer_boolean (item (Item.Variable n)) a b = refl
 integer_boolean (item Item.Draw) a b = refl
 integer_boolean none a b = refl
 
-pub boolean_integer : (r : Read) (a : Bool) (b : ℤ) → NoValue ≡ values_on r (Boolean a) (Integer b)
+pub boolean_integer : (r : Read) (a : Bool) (b : ℤ) → None ≡ values_on r (Boolean a) (Integer b)
 unfolding values_on
 boolean_integer (item (Item.Binary And)) a b = refl
 boolean_integer (item (Item.Binary Or)) a b = refl
@@ -132,7 +131,7 @@ boolean_integer (item Item.Draw) a b = refl
 boolean_integer none a b = refl
 
 -- nor an operand without a value
-pub none_left : (r : Read) (b : Evaluated) → NoValue ≡ binary_on r NoValue b
+pub none_left : (r : Read) (b : Option Val) → None ≡ binary_on r None b
 unfolding binary_on
 none_left (item (Item.Binary o)) b = refl
 none_left (item (Item.Unary u)) b = refl
@@ -141,7 +140,7 @@ none_left (item (Item.Variable n)) b = refl
 none_left (item Item.Draw) b = refl
 none_left none b = refl
 
-pub none_right : (r : Read) (a : Val) → NoValue ≡ binary_on r (Known a) NoValue
+pub none_right : (r : Read) (a : Val) → None ≡ binary_on r (Some a) None
 unfolding binary_on
 none_right (item (Item.Binary o)) a = refl
 none_right (item (Item.Unary u)) a = refl
@@ -150,7 +149,7 @@ none_right (item (Item.Variable n)) a = refl
 none_right (item Item.Draw) a = refl
 none_right none a = refl
 
-pub both_known : (r : Read) (a b : Val) → values_on r a b ≡ binary_on r (Known a) (Known b)
+pub both_known : (r : Read) (a b : Val) → values_on r a b ≡ binary_on r (Some a) (Some b)
 unfolding values_on binary_on
 both_known (item (Item.Binary o)) a b = refl
 both_known (item (Item.Unary u)) a b = refl
@@ -160,7 +159,7 @@ both_known (item Item.Draw) a b = refl
 both_known none a b = refl
 
 -- a word below 13 and neither 1 nor 4 is a binary operation or nothing
-pub binary_word_lem : (a b : Evaluated) (w : ℕ) → w < 13 → ((Unit {0} × (w ≡ 1 → ⊥)) × (w ≡ 4 → ⊥))
+pub binary_word_lem : (a b : Option Val) (w : ℕ) → w < 13 → ((Unit {0} × (w ≡ 1 → ⊥)) × (w ≡ 4 → ⊥))
     → binary_on (item_of w) a b ≡ made (value_step [] 0 (item_of w)) a b
 unfolding binary_on
 binary_word_lem a b =
@@ -183,7 +182,7 @@ binary_word_lem a b =
     )
 
 -- an operation looks neither at the variables nor at the word
-pub no_variables : (vars : List Slot) (left : ℕ) (a b : Evaluated) (w : ℕ) → w < 13
+pub no_variables : (vars : List Slot) (left : ℕ) (a b : Option Val) (w : ℕ) → w < 13
     → made (value_step [] 0 (item_of w)) a b ≡ made (value_step vars left (item_of w)) a b
 no_variables vars left a b =
     low_any 13 (lit≤ tt) (λ (w : ℕ) (r : Read). made (value_step [] 0 r) a b ≡ made (value_step vars left r) a b)
@@ -199,11 +198,11 @@ no_word x left w h =
 
 -- what a word from 13 on adds, where x is what its variable holds
 looked_up : (vars : List Slot) (k : ℕ) (t : Bool)
-    → cond t (Known (get_or vars (cond t k 0) blank).value) NoValue ≡ cond t (Known (get_or vars k blank).value) NoValue
+    → cond t (Some (get_or vars (cond t k 0) blank).value) None ≡ cond t (Some (get_or vars k blank).value) None
 looked_up vars k true = refl
 looked_up vars k false = refl
 
-pub operand_word : (vars : List Slot) (left : ℕ) (a b : Evaluated) (w : ℕ) → 13 ≤ w
+pub operand_word : (vars : List Slot) (left : ℕ) (a b : Option Val) (w : ℕ) → 13 ≤ w
     → operand_on (get_or vars (slot_of w) blank).value (w / 256) left (item_of w) ≡ made (value_step vars left (item_of w)) a b
 unfolding operand_on item_of
 operand_word vars left a b w h = by (dec_lt 13 w)

@@ -21,24 +21,24 @@ use Rattle.grammar.specs.declared.items.Binary.{Binary}
 use Rattle.grammar.specs.declared.items.Binary.TheVariants.{And, Or, Add, Subtract, Multiply, Divide, Remainder, Equal, Less}
 use Rattle.grammar.specs.declared.items.Binary.TheVariants.{LessOrEqual}
 use Rattle.grammar.specs.declared.items.Item.TheVariants as Item
-use Rattle.grammar.specs.declared.evaluation.Evaluated.{Evaluated}
-use Rattle.grammar.specs.declared.evaluation.Evaluated.TheVariants.{Known, NoValue}
+use Rattle.std.specs.Prelude.{Option, Some, None}
+use Rattle.grammar.specs.declared.values.Val.{Val}
 
 -- no value, or one of this kind
-abbrev pub HasKind : Evaluated → Kind → Type 0
-HasKind NoValue k = Unit {0}
-HasKind (Known v) k = kind_of v ≡ k
+abbrev pub HasKind : Option Val → Kind → Type 0
+HasKind None k = Unit {0}
+HasKind (Some v) k = kind_of v ≡ k
 
 -- of an ill-typed operand nothing is said
-abbrev pub Of : Evaluated → Kinded → Type 0
+abbrev pub Of : Option Val → Kinded → Type 0
 Of e (of k) = HasKind e k
 Of e ill = Unit {0}
 
 -- ---- the runs go alike where the steps do
-abbrev Alike : Step Evaluated → Step Kinded → Type 0
+abbrev Alike : Step (Option Val) → Step Kinded → Type 0
 Alike (push v) (push k) = Of v k
-Alike (change f) (change g) = (v : Evaluated) (k : Kinded) → Of v k → Of (f v) (g k)
-Alike (join f) (join g) = (v w : Evaluated) (k l : Kinded) → Of v k → Of w l → Of (f v w) (g k l)
+Alike (change f) (change g) = (v : Option Val) (k : Kinded) → Of v k → Of (f v) (g k)
+Alike (join f) (join g) = (v w : Option Val) (k l : Kinded) → Of v k → Of w l → Of (f v w) (g k l)
 Alike (push v) (change g) = ⊥
 Alike (push v) (join g) = ⊥
 Alike (change f) (push k) = ⊥
@@ -46,21 +46,21 @@ Alike (change f) (join g) = ⊥
 Alike (join f) (push k) = ⊥
 Alike (join f) (change g) = ⊥
 
-abbrev AllOf : List Evaluated → List Kinded → Type 0
+abbrev AllOf : List (Option Val) → List Kinded → Type 0
 AllOf [] [] = Unit {0}
 AllOf (v ∷ vs) (k ∷ ks) = Of v k × AllOf vs ks
 AllOf [] (k ∷ ks) = ⊥
 AllOf (v ∷ vs) [] = ⊥
 
-abbrev pub Agree : Ran Evaluated → Ran Kinded → Type 0
+abbrev pub Agree : Ran (Option Val) → Ran Kinded → Type 0
 Agree (gives v) (gives k) = Of v k
 Agree stuck stuck = Unit {0}
 Agree (gives v) stuck = ⊥
 Agree stuck (gives k) = ⊥
 
-module _ (is : List (Step Evaluated)) (js : List (Step Kinded))
-    (rest : (vs : List Evaluated) (ks : List Kinded) → AllOf vs ks → Agree (run_of is vs) (run_of js ks)) where
-  one : (i : Step Evaluated) (j : Step Kinded) → Alike i j → (vs : List Evaluated) (ks : List Kinded) → AllOf vs ks
+module _ (is : List (Step (Option Val))) (js : List (Step Kinded))
+    (rest : (vs : List (Option Val)) (ks : List Kinded) → AllOf vs ks → Agree (run_of is vs) (run_of js ks)) where
+  one : (i : Step (Option Val)) (j : Step Kinded) → Alike i j → (vs : List (Option Val)) (ks : List Kinded) → AllOf vs ks
       → Agree (run_of (i ∷ is) vs) (run_of (j ∷ js) ks)
   unfolding run_of
   one (push v) (push k) a vs ks h = rest (v ∷ vs) (k ∷ ks) (a, h)
@@ -82,7 +82,7 @@ module _ (is : List (Step Evaluated)) (js : List (Step Kinded))
   one (join f) (push k) a vs ks h = absurd a
   one (join f) (change g) a vs ks h = absurd a
 
-ended : (vs : List Evaluated) (ks : List Kinded) → AllOf vs ks → Agree (run_of [] vs) (run_of [] ks)
+ended : (vs : List (Option Val)) (ks : List Kinded) → AllOf vs ks → Agree (run_of [] vs) (run_of [] ks)
 unfolding run_of
 ended [] [] h = tt
 ended (u ∷ []) (k ∷ []) h = h.0
@@ -93,26 +93,26 @@ ended (v ∷ []) (k ∷ l ∷ ks) h = absurd h.1
 ended (u ∷ v ∷ vs) (k ∷ []) h = absurd h.1
 
 -- ---- each operation goes alike
-kind_cond : (t : Bool) (a b : Evaluated) (k : Kind) → HasKind a k → HasKind b k → HasKind (cond t a b) k
+kind_cond : (t : Bool) (a b : Option Val) (k : Kind) → HasKind a k → HasKind b k → HasKind (cond t a b) k
 kind_cond true a b k h l = h
 kind_cond false a b k h l = l
 
 fitted_kind : (z : ℤ) → HasKind (fitted z) Kind.Integer
 fitted_kind z =
-    kind_cond (lt_z z least) NoValue (cond (lt_z most z) NoValue (Known (Integer z))) Kind.Integer tt
-    (kind_cond (lt_z most z) NoValue (Known (Integer z)) Kind.Integer tt refl)
+    kind_cond (lt_z z least) None (cond (lt_z most z) None (Some (Integer z))) Kind.Integer tt
+    (kind_cond (lt_z most z) None (Some (Integer z)) Kind.Integer tt refl)
 
-divided_kind : (y z : ℤ) → HasKind (cond (is_zero y) NoValue (fitted z)) Kind.Integer
-divided_kind y z = kind_cond (is_zero y) NoValue (fitted z) Kind.Integer tt (fitted_kind z)
+divided_kind : (y z : ℤ) → HasKind (cond (is_zero y) None (fitted z)) Kind.Integer
+divided_kind y z = kind_cond (is_zero y) None (fitted z) Kind.Integer tt (fitted_kind z)
 
-ints_alike : (f : ℤ → ℤ → Evaluated) (r : Kind) → ((x y : ℤ) → HasKind (f x y) r)
+ints_alike : (f : ℤ → ℤ → Option Val) (r : Kind) → ((x y : ℤ) → HasKind (f x y) r)
     → Alike (join (strict2 (ints f))) (join (takes2 Kind.Integer r))
-ints_alike f r ok (Known (Integer x)) (Known (Integer y)) (of Kind.Integer) (of Kind.Integer) h l = ok x y
-ints_alike f r ok (Known (Integer x)) (Known (Boolean y)) (of Kind.Integer) (of Kind.Integer) h l = tt
-ints_alike f r ok (Known (Integer x)) NoValue (of Kind.Integer) (of Kind.Integer) h l = tt
-ints_alike f r ok (Known (Boolean x)) (Known w) (of Kind.Integer) (of Kind.Integer) h l = tt
-ints_alike f r ok (Known (Boolean x)) NoValue (of Kind.Integer) (of Kind.Integer) h l = tt
-ints_alike f r ok NoValue w (of Kind.Integer) (of Kind.Integer) h l = tt
+ints_alike f r ok (Some (Integer x)) (Some (Integer y)) (of Kind.Integer) (of Kind.Integer) h l = ok x y
+ints_alike f r ok (Some (Integer x)) (Some (Boolean y)) (of Kind.Integer) (of Kind.Integer) h l = tt
+ints_alike f r ok (Some (Integer x)) None (of Kind.Integer) (of Kind.Integer) h l = tt
+ints_alike f r ok (Some (Boolean x)) (Some w) (of Kind.Integer) (of Kind.Integer) h l = tt
+ints_alike f r ok (Some (Boolean x)) None (of Kind.Integer) (of Kind.Integer) h l = tt
+ints_alike f r ok None w (of Kind.Integer) (of Kind.Integer) h l = tt
 ints_alike f r ok v w (of Kind.Integer) (of Kind.Boolean) h l = tt
 ints_alike f r ok v w (of Kind.Integer) ill h l = tt
 ints_alike f r ok v w (of Kind.Boolean) (of m) h l = tt
@@ -120,12 +120,12 @@ ints_alike f r ok v w (of Kind.Boolean) ill h l = tt
 ints_alike f r ok v w ill m h l = tt
 
 bools_alike : (f : Bool → Bool → Bool) → Alike (join (strict2 (bools f))) (join (takes2 Kind.Boolean Kind.Boolean))
-bools_alike f (Known (Boolean x)) (Known (Boolean y)) (of Kind.Boolean) (of Kind.Boolean) h l = refl
-bools_alike f (Known (Boolean x)) (Known (Integer y)) (of Kind.Boolean) (of Kind.Boolean) h l = tt
-bools_alike f (Known (Boolean x)) NoValue (of Kind.Boolean) (of Kind.Boolean) h l = tt
-bools_alike f (Known (Integer x)) (Known w) (of Kind.Boolean) (of Kind.Boolean) h l = tt
-bools_alike f (Known (Integer x)) NoValue (of Kind.Boolean) (of Kind.Boolean) h l = tt
-bools_alike f NoValue w (of Kind.Boolean) (of Kind.Boolean) h l = tt
+bools_alike f (Some (Boolean x)) (Some (Boolean y)) (of Kind.Boolean) (of Kind.Boolean) h l = refl
+bools_alike f (Some (Boolean x)) (Some (Integer y)) (of Kind.Boolean) (of Kind.Boolean) h l = tt
+bools_alike f (Some (Boolean x)) None (of Kind.Boolean) (of Kind.Boolean) h l = tt
+bools_alike f (Some (Integer x)) (Some w) (of Kind.Boolean) (of Kind.Boolean) h l = tt
+bools_alike f (Some (Integer x)) None (of Kind.Boolean) (of Kind.Boolean) h l = tt
+bools_alike f None w (of Kind.Boolean) (of Kind.Boolean) h l = tt
 bools_alike f v w (of Kind.Boolean) (of Kind.Integer) h l = tt
 bools_alike f v w (of Kind.Boolean) ill h l = tt
 bools_alike f v w (of Kind.Integer) (of m) h l = tt
@@ -133,14 +133,14 @@ bools_alike f v w (of Kind.Integer) ill h l = tt
 bools_alike f v w ill m h l = tt
 
 -- two of one kind give a boolean
-same_kind_lem : (v w : Evaluated) → HasKind (strict2 same_of v w) Kind.Boolean
-same_kind_lem (Known (Boolean x)) (Known (Boolean y)) = refl
-same_kind_lem (Known (Integer x)) (Known (Integer y)) = refl
-same_kind_lem (Known (Boolean x)) (Known (Integer y)) = tt
-same_kind_lem (Known (Integer x)) (Known (Boolean y)) = tt
-same_kind_lem (Known (Boolean x)) NoValue = tt
-same_kind_lem (Known (Integer x)) NoValue = tt
-same_kind_lem NoValue w = tt
+same_kind_lem : (v w : Option Val) → HasKind (strict2 same_of v w) Kind.Boolean
+same_kind_lem (Some (Boolean x)) (Some (Boolean y)) = refl
+same_kind_lem (Some (Integer x)) (Some (Integer y)) = refl
+same_kind_lem (Some (Boolean x)) (Some (Integer y)) = tt
+same_kind_lem (Some (Integer x)) (Some (Boolean y)) = tt
+same_kind_lem (Some (Boolean x)) None = tt
+same_kind_lem (Some (Integer x)) None = tt
+same_kind_lem None w = tt
 
 same_alike : Alike (join (strict2 same_of)) (join alike)
 same_alike v w (of Kind.Boolean) (of Kind.Boolean) h l = same_kind_lem v w
@@ -152,14 +152,14 @@ same_alike v w (of Kind.Integer) ill h l = tt
 same_alike v w ill m h l = tt
 
 unary_alike : (u : Unary) → Alike (change (unary_of u)) (change (unary_kind u))
-unary_alike Not (Known (Boolean x)) (of Kind.Boolean) h = refl
-unary_alike Not (Known (Integer x)) (of Kind.Boolean) h = tt
-unary_alike Not NoValue (of Kind.Boolean) h = tt
+unary_alike Not (Some (Boolean x)) (of Kind.Boolean) h = refl
+unary_alike Not (Some (Integer x)) (of Kind.Boolean) h = tt
+unary_alike Not None (of Kind.Boolean) h = tt
 unary_alike Not v (of Kind.Integer) h = tt
 unary_alike Not v ill h = tt
-unary_alike Negate (Known (Integer x)) (of Kind.Integer) h = fitted_kind (pos 0 -ℤ x)
-unary_alike Negate (Known (Boolean x)) (of Kind.Integer) h = tt
-unary_alike Negate NoValue (of Kind.Integer) h = tt
+unary_alike Negate (Some (Integer x)) (of Kind.Integer) h = fitted_kind (pos 0 -ℤ x)
+unary_alike Negate (Some (Boolean x)) (of Kind.Integer) h = tt
+unary_alike Negate None (of Kind.Integer) h = tt
 unary_alike Negate v (of Kind.Boolean) h = tt
 unary_alike Negate v ill h = tt
 
@@ -189,7 +189,7 @@ module _ (vars : List Slot) (kinds : List ℕ) (fit : Fit vars kinds) where
   step_alike left (item Item.Draw) = refl
   step_alike left none = tt
 
-  runs : (ws : List ℕ) (left : ℕ) (vs : List Evaluated) (ks : List Kinded) → AllOf vs ks
+  runs : (ws : List ℕ) (left : ℕ) (vs : List (Option Val)) (ks : List Kinded) → AllOf vs ks
       → Agree (run_of (value_steps vars left ws) vs) (run_of (kind_steps kinds ws) ks)
   unfolding value_steps kind_steps
   runs [] left vs ks h = ended vs ks h

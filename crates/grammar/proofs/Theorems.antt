@@ -29,8 +29,8 @@ use Rattle.grammar.specs.declared.items.Binary.TheVariants.{LessOrEqual}
 use Rattle.grammar.specs.declared.items.Item.{Item}
 use Rattle.grammar.specs.declared.typing.Typed.{Typed}
 use Rattle.grammar.specs.declared.typing.Typed.TheVariants.{Known, TableFull, TooDeep}
-use Rattle.grammar.specs.declared.evaluation.Evaluated.{Evaluated}
-use Rattle.grammar.specs.declared.evaluation.Evaluated.TheVariants.{NoValue}
+use Rattle.std.specs.Prelude.{Option, None}
+use Rattle.grammar.specs.declared.values.Val.{Val}
 use Rattle.grammar.proofs.BitLaws.{bits_small, from_bits_of}
 use Rattle.grammar.proofs.ItemLaws.{high}
 use Rattle.grammar.proofs.EvaluationLaws.{value_given}
@@ -73,14 +73,14 @@ found kinds ws k e =
     record { short = leb-true (length ws) 64 c.0; shallow = j.0; run = j.1 }
 
 -- a run of the values beside one of the kinds that gives a kind
-given : (r : Ran Evaluated) (q : Ran Kinded) (k : Kind) → Agree r q → q ≡ gives (of k) → (v : Evaluated) × ((r ≡ gives v) × HasKind v k)
+given : (r : Ran (Option Val)) (q : Ran Kinded) (k : Kind) → Agree r q → q ≡ gives (of k) → (v : Option Val) × ((r ≡ gives v) × HasKind v k)
 given (gives v) q k h e = (v, (refl, subst (Agree (gives v)) e h))
 given stuck q k h e = absurd (subst (Agree stuck) e h)
 
 module _ (vars : List Slot) (kinds : List ℕ) (fit : Fit vars kinds) (ws : List ℕ) (k : Kind) (typed : type_of kinds ws ≡ Known k)
     (word : ℕ) where
   -- An expression typed as a kind never sticks on variables of their kinds,
-  pub typed_runs : (v : Evaluated) × ((run_of (value_steps vars word ws) [] ≡ gives v) × HasKind v k)
+  pub typed_runs : (v : Option Val) × ((run_of (value_steps vars word ws) [] ≡ gives v) × HasKind v k)
   typed_runs =
       given (run_of (value_steps vars word ws) []) (run_of (kind_steps kinds ws) []) k (agree vars kinds fit ws word)
       (found kinds ws k typed).run
@@ -89,7 +89,7 @@ module _ (vars : List Slot) (kinds : List ℕ) (fit : Fit vars kinds) (ws : List
   pub typed_value : HasKind (value_of vars word ws) k
   typed_value =
       let r = typed_runs in
-      subst (λ (e : Evaluated). HasKind e k)
+      subst (λ (e : Option Val). HasKind e k)
       (value_given vars word ws {v = r.0} (le-leb (deepest ws 0) 16 (found kinds ws k typed).shallow) r.1.0) r.1.1
 
 module _ (kinds ws : List ℕ) (k : Kind) (typed : type_of kinds ws ≡ Known k) where
@@ -144,14 +144,14 @@ module _ (vars : List Slot) where
   same_steps [] u v e = refl
   same_steps (w ∷ ws) u v e =
       let m = draws_in (item_of w) in
-      ap (λ (s : Step Evaluated). s ∷ value_steps vars (u / 2 ^ m) ws) (same_step (item_of w) u v (here m (draws_of ws) u v e))
-      ∙ ap (λ (l : List (Step Evaluated)). value_step vars v (item_of w) ∷ l)
+      ap (λ (s : Step (Option Val)). s ∷ value_steps vars (u / 2 ^ m) ws) (same_step (item_of w) u v (here m (draws_of ws) u v e))
+      ∙ ap (λ (l : List (Step (Option Val))). value_step vars v (item_of w) ∷ l)
       (same_steps ws (u / 2 ^ m) (v / 2 ^ m) (after m (draws_of ws) u v e))
 
   pub bits_read : (ws : List ℕ) (u v : ℕ) → u % 2 ^ draws_of ws ≡ v % 2 ^ draws_of ws → value_of vars u ws ≡ value_of vars v ws
   unfolding value_of
   bits_read ws u v e =
-      ap (λ (l : List (Step Evaluated)). unless (leb (deepest ws 0) 16) NoValue (result_of (run_of l []))) (same_steps ws u v e)
+      ap (λ (l : List (Step (Option Val))). unless (leb (deepest ws 0) 16) None (result_of (run_of l []))) (same_steps ws u v e)
 
   pub word_unread : (ws : List ℕ) (u v : ℕ) → draws_of ws ≡ 0 → value_of vars u ws ≡ value_of vars v ws
   word_unread ws u v e = bits_read ws u v (rw e (omega arith))

@@ -20,7 +20,7 @@ use Rattle.grammar.specs.declared.values.Val.TheVariants.{Boolean, Integer}
 use Rattle.grammar.specs.declared.values.Slot.{Slot}
 use Rattle.grammar.specs.declared.items.Item.{Item}
 use Rattle.grammar.specs.declared.typing.Typed.TheVariants.{Known}
-use Rattle.grammar.specs.declared.evaluation.Evaluated.{Evaluated}
+use Rattle.std.specs.Prelude.{Option}
 use Rattle.grammar.proofs.StepLaws.{deepest_least}
 use Rattle.grammar.proofs.EvaluationLaws.{value_given, evaluated}
 use Rattle.grammar.proofs.Theorems.{read_back, typed_operands}
@@ -45,20 +45,20 @@ constant_back (Integer n) f = read_back (Item.Constant (Integer n)) f
 
 -- ---- the run of a tree's words leaves its value on top, and its rest of the word
 module _ (vars : List Slot) where
-  head : (w : ℕ) (i : Item) → item_of w ≡ item i → (word : ℕ) (ws : List ℕ) (waiting : List Evaluated)
+  head : (w : ℕ) (i : Item) → item_of w ≡ item i → (word : ℕ) (ws : List ℕ) (waiting : List (Option Val))
       → run_of (value_steps vars word (w ∷ ws)) waiting
       ≡ run_of (value_step vars word (item i) ∷ value_steps vars (word / 2 ^ draws_in (item i)) ws) waiting
   unfolding value_steps
   head w i e word ws waiting = rw e
 
   -- an item that draws nothing leaves the word
-  pure : (w : ℕ) (i : Item) → item_of w ≡ item i → draws_in (item i) ≡ 0 → (word : ℕ) (ws : List ℕ) (waiting : List Evaluated)
+  pure : (w : ℕ) (i : Item) → item_of w ≡ item i → draws_in (item i) ≡ 0 → (word : ℕ) (ws : List ℕ) (waiting : List (Option Val))
       → run_of (value_steps vars word (w ∷ ws)) waiting ≡ run_of (value_step vars word (item i) ∷ value_steps vars word ws) waiting
   pure w i e d word ws waiting =
       head w i e word ws waiting
       ∙ ap (λ (n : ℕ). run_of (value_step vars word (item i) ∷ value_steps vars n ws) waiting) (ap (λ (n : ℕ). word / 2 ^ n) d ∙ div-one word)
 
-  runs : (t : Tree) → FitTree t → (word : ℕ) (ws : List ℕ) (waiting : List Evaluated)
+  runs : (t : Tree) → FitTree t → (word : ℕ) (ws : List ℕ) (waiting : List (Option Val))
       → run_of (value_steps vars word (words_of t ++ ws)) waiting
       ≡ run_of (value_steps vars (tree_of vars word t).rest ws) ((tree_of vars word t).value ∷ waiting)
   unfolding run_of postfix tree_of FitTree

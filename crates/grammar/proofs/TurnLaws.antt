@@ -16,8 +16,8 @@ use Rattle.grammar.specs.Run.{Step, run_of, made}
 use Rattle.grammar.specs.Evaluation.{blank, draw_of, value_step, value_steps, value_of}
 use Rattle.grammar.specs.Inner.{operates_of, slot_of, held_of, operand_on}
 use Rattle.grammar.specs.declared.values.Slot.{Slot}
-use Rattle.grammar.specs.declared.evaluation.Evaluated.{Evaluated}
-use Rattle.grammar.specs.declared.evaluation.Evaluated.TheVariants.{Known, NoValue}
+use Rattle.std.specs.Prelude.{Option, Some, None}
+use Rattle.grammar.specs.declared.values.Val.{Val}
 use Rattle.grammar.proofs.ItemLaws.{low_any, high, no_draw, takes_operand}
 use Rattle.grammar.proofs.OperationLaws.{no_word, operand_word}
 use Rattle.grammar.proofs.Stack.{stack_of, short, went, ends, ended}
@@ -69,16 +69,16 @@ module _ (w : ℕ) where
       by (no n) = takes_operand w (large e n)
 
 -- what a word that is no operation adds
-module _ (vars : List Slot) (left : ℕ) (a b : Evaluated) (w : ℕ) where
+module _ (vars : List Slot) (left : ℕ) (a b : Option Val) (w : ℕ) where
   pub drawn : w ≡ 13 → draw_of left ≡ made (value_step vars left (item_of w)) a b
   unfolding item_of
   drawn e = rw e
 
   pub looked_up : w % 256 ≡ 16
-      → cond (ltb (w / 256) 16) (Known (get_or vars (slot_of w) blank).value) NoValue ≡ made (value_step vars left (item_of w)) a b
+      → cond (ltb (w / 256) 16) (Some (get_or vars (slot_of w) blank).value) None ≡ made (value_step vars left (item_of w)) a b
   unfolding operand_on
   looked_up e =
-      subst (λ (r : Read). cond (ltb (w / 256) 16) (Known (get_or vars (slot_of w) blank).value) NoValue
+      subst (λ (r : Read). cond (ltb (w / 256) 16) (Some (get_or vars (slot_of w) blank).value) None
       ≡ operand_on (get_or vars (slot_of w) blank).value
       (w / 256) left r) (sym (high w (omega arith))) (rw e) ∙ operand_word vars left a b w (omega arith)
 
@@ -117,9 +117,9 @@ module _ {items : List ℕ} {vars : List Slot} {word : ℕ} {stack : List ℕ} {
     (g : Going items vars word stack left depth at) where
   finished : length items ≤ at → run_of [] (stack_of held_of 0 stack depth) ≡ run_of (value_steps vars word items) []
   finished h =
-      ap (λ (is : List (Step Evaluated)). run_of is (stack_of held_of 0 stack depth)) (sym (value_done items at vars left h)) ∙ g.same_run
+      ap (λ (is : List (Step (Option Val))). run_of is (stack_of held_of 0 stack depth)) (sym (value_done items at vars left h)) ∙ g.same_run
 
-  pub stuck_here : length items ≤ at → (depth ≡ 1 → ⊥) → NoValue ≡ value_of vars word items
+  pub stuck_here : length items ≤ at → (depth ≡ 1 → ⊥) → None ≡ value_of vars word items
   stuck_here h n = value_stuck vars word items (sym (finished h) ∙ ends held_of 0 stack depth n)
 
   pub gives_value : length items ≤ at → depth ≡ 1 → held_of (get_or stack 0 0) ≡ value_of vars word items
@@ -133,16 +133,16 @@ module _ {items : List ℕ} {vars : List Slot} {word : ℕ} {stack : List ℕ} {
     step : run_of (value_step vars left (item_of (get_or items at 0)) ∷ value_steps vars (left / 2 ^ draws_in (item_of (get_or items at 0)))
         (drop (at + 1) items)) (stack_of held_of 0 stack depth) ≡ run_of (value_steps vars word items) []
     step =
-        ap (λ (is : List (Step Evaluated)). run_of is (stack_of held_of 0 stack depth)) (sym (value_next items at vars left h)) ∙ g.same_run
+        ap (λ (is : List (Step (Option Val))). run_of is (stack_of held_of 0 stack depth)) (sym (value_next items at vars left h)) ∙ g.same_run
 
-    pub too_few : depth < takes_of (item_of (get_or items at 0)) → NoValue ≡ value_of vars word items
+    pub too_few : depth < takes_of (item_of (get_or items at 0)) → None ≡ value_of vars word items
     too_few l =
         value_stuck vars word items
         (sym step
         ∙ short held_of 0 (value_step vars left (item_of (get_or items at 0))) _ stack depth
         (omega (arith, value_size vars left (item_of (get_or items at 0)))))
 
-    pub too_deep_lem : takes_of (item_of (get_or items at 0)) ≡ 0 → 16 ≤ depth → NoValue ≡ value_of vars word items
+    pub too_deep_lem : takes_of (item_of (get_or items at 0)) ≡ 0 → 16 ≤ depth → None ≡ value_of vars word items
     too_deep_lem e l =
         let deep : 16 < deepest (drop at items) depth =
         omega (arith, rw e at (deepest_next items at depth h), deepest_least (drop (at + 1) items) (depth - 0 + 1)) in

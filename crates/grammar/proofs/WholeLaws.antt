@@ -16,12 +16,12 @@ use Rattle.grammar.specs.Values.{eq_z}
 use Rattle.grammar.specs.Arith.{least, most, fitted}
 use Rattle.grammar.specs.Inner.{whole_of}
 use Rattle.grammar.specs.declared.values.Val.TheVariants.{Integer}
-use Rattle.grammar.specs.declared.evaluation.Evaluated.TheVariants.{Known, NoValue}
+use Rattle.std.specs.Prelude.{Some, None}
 
-fitted_low : (z : ℤ) → lt_z z least ≡ true → fitted z ≡ NoValue
+fitted_low : (z : ℤ) → lt_z z least ≡ true → fitted z ≡ None
 fitted_low z e = rw e
 
-fitted_high : (z : ℤ) → lt_z z least ≡ false → lt_z most z ≡ true → fitted z ≡ NoValue
+fitted_high : (z : ℤ) → lt_z z least ≡ false → lt_z most z ≡ true → fitted z ≡ None
 fitted_high z e f = rw (e, f)
 
 up : (a b : ℕ) → b ≤ a → sub_ℕ a b ≡ pos (a - b)
@@ -171,25 +171,25 @@ waits (negsuc k) f =
 
 -- the range test of a number that waits twice as far
 module _ (s : ℕ) where
-  pub too_low : s < 2147483648 → fitted (sub_ℕ s 4294967296) ≡ NoValue
+  pub too_low : s < 2147483648 → fitted (sub_ℕ s 4294967296) ≡ None
   too_low h =
       fitted_low (sub_ℕ s 4294967296)
       (ap (λ (z : ℤ). lt_z z least) (down s 4294967296 (omega arith)) ∙ lt-ltb 2147483647 (4294967296 - suc s) (omega arith))
 
-  pub too_high : 6442450944 ≤ s → fitted (sub_ℕ s 4294967296) ≡ NoValue
+  pub too_high : 6442450944 ≤ s → fitted (sub_ℕ s 4294967296) ≡ None
   too_high h =
       fitted_high (sub_ℕ s 4294967296) (ap (λ (z : ℤ). lt_z z least) (up s 4294967296 (omega arith)))
       (ap (λ (z : ℤ). lt_z most z) (up s 4294967296 (omega arith)) ∙ lt-ltb 2147483647 (s - 4294967296) (omega arith))
 
-  pub in_between : 2147483648 ≤ s → s < 6442450944 → fitted (sub_ℕ s 4294967296) ≡ Known (Integer (whole_of (s - 2147483648)))
+  pub in_between : 2147483648 ≤ s → s < 6442450944 → fitted (sub_ℕ s 4294967296) ≡ Some (Integer (whole_of (s - 2147483648)))
   in_between h k = by (side s 4294967296)
     where
-      by : Side s 4294967296 → fitted (sub_ℕ s 4294967296) ≡ Known (Integer (whole_of (s - 2147483648)))
+      by : Side s 4294967296 → fitted (sub_ℕ s 4294967296) ≡ Some (Integer (whole_of (s - 2147483648)))
       by (above l p) =
           ap fitted p
-          ∙ rw (le-ltb 2147483647 (s - 4294967296) (omega arith)) (ap (λ (z : ℤ). Known (Integer z))
+          ∙ rw (le-ltb 2147483647 (s - 4294967296) (omega arith)) (ap (λ (z : ℤ). Some (Integer z))
           (sym p ∙ same s 4294967296 (s - 2147483648) 2147483648 (omega arith)))
       by (below l p) =
           ap fitted p
-          ∙ rw (le-ltb 2147483647 (4294967296 - suc s) (omega arith)) (ap (λ (z : ℤ). Known (Integer z))
+          ∙ rw (le-ltb 2147483647 (4294967296 - suc s) (omega arith)) (ap (λ (z : ℤ). Some (Integer z))
           (sym p ∙ same s 4294967296 (s - 2147483648) 2147483648 (omega arith)))

@@ -16,54 +16,53 @@ use Rattle.grammar.specs.declared.items.Binary.{Binary}
 use Rattle.grammar.specs.declared.items.Binary.TheVariants.{And, Or, Add, Subtract, Multiply, Divide, Remainder, Equal, Less}
 use Rattle.grammar.specs.declared.items.Binary.TheVariants.{LessOrEqual}
 use Rattle.grammar.specs.declared.items.Item.TheVariants as Item
-use Rattle.grammar.specs.declared.evaluation.Evaluated.{Evaluated}
-use Rattle.grammar.specs.declared.evaluation.Evaluated.TheVariants.{Known, NoValue}
+use Rattle.std.specs.Prelude.{Option, Some, None}
 use Rattle.grammar.specs.declared.evaluation.Evaluation.{Evaluation}
 
-abbrev pub boolean : Bool → Evaluated
-boolean b = Known (Boolean b)
+abbrev pub boolean : Bool → Option Val
+boolean b = Some (Boolean b)
 
 -- an operation on two booleans, on two integers
-abbrev pub bools : (Bool → Bool → Bool) → Val → Val → Evaluated
+abbrev pub bools : (Bool → Bool → Bool) → Val → Val → Option Val
 bools f (Boolean a) (Boolean b) = boolean (f a b)
-bools f (Boolean a) (Integer b) = NoValue
-bools f (Integer a) b = NoValue
+bools f (Boolean a) (Integer b) = None
+bools f (Integer a) b = None
 
-abbrev pub ints : (ℤ → ℤ → Evaluated) → Val → Val → Evaluated
+abbrev pub ints : (ℤ → ℤ → Option Val) → Val → Val → Option Val
 ints f (Integer a) (Integer b) = f a b
-ints f (Integer a) (Boolean b) = NoValue
-ints f (Boolean a) b = NoValue
+ints f (Integer a) (Boolean b) = None
+ints f (Boolean a) b = None
 
 -- The = takes two of one kind.
-abbrev pub same_of : Val → Val → Evaluated
+abbrev pub same_of : Val → Val → Option Val
 same_of (Boolean a) (Boolean b) = boolean (same_val (Boolean a) (Boolean b))
 same_of (Integer a) (Integer b) = boolean (same_val (Integer a) (Integer b))
-same_of (Boolean a) (Integer b) = NoValue
-same_of (Integer a) (Boolean b) = NoValue
+same_of (Boolean a) (Integer b) = None
+same_of (Integer a) (Boolean b) = None
 
-abbrev pub not_of : Val → Evaluated
+abbrev pub not_of : Val → Option Val
 not_of (Boolean a) = boolean (not a)
-not_of (Integer a) = NoValue
+not_of (Integer a) = None
 
-abbrev pub negate_of : Val → Evaluated
+abbrev pub negate_of : Val → Option Val
 negate_of (Integer a) = difference_of (pos 0) a
-negate_of (Boolean a) = NoValue
+negate_of (Boolean a) = None
 
 -- Where an operand has no value, the operation has none.
-abbrev pub strict1 : (Val → Evaluated) → Evaluated → Evaluated
-strict1 f (Known a) = f a
-strict1 f NoValue = NoValue
+abbrev pub strict1 : (Val → Option Val) → Option Val → Option Val
+strict1 f (Some a) = f a
+strict1 f None = None
 
-abbrev pub strict2 : (Val → Val → Evaluated) → Evaluated → Evaluated → Evaluated
-strict2 f (Known a) (Known b) = f a b
-strict2 f (Known a) NoValue = NoValue
-strict2 f NoValue b = NoValue
+abbrev pub strict2 : (Val → Val → Option Val) → Option Val → Option Val → Option Val
+strict2 f (Some a) (Some b) = f a b
+strict2 f (Some a) None = None
+strict2 f None b = None
 
-abbrev pub unary_of : Unary → Evaluated → Evaluated
+abbrev pub unary_of : Unary → Option Val → Option Val
 unary_of Not = strict1 not_of
 unary_of Negate = strict1 negate_of
 
-abbrev pub values_of : Binary → Val → Val → Evaluated
+abbrev pub values_of : Binary → Val → Val → Option Val
 values_of And = bools ◌&&◌
 values_of Or = bools ◌||◌
 values_of Add = ints sum_of
@@ -75,38 +74,38 @@ values_of Equal = same_of
 values_of Less = ints (λ a b. boolean (lt_z a b))
 values_of LessOrEqual = ints (λ a b. boolean (le_z a b))
 
-abbrev pub binary_of : Binary → Evaluated → Evaluated → Evaluated
+abbrev pub binary_of : Binary → Option Val → Option Val → Option Val
 binary_of o = strict2 (values_of o)
 
 abbrev pub blank : Slot
 blank = record { value = Boolean false }
 
-abbrev pub variable_of : List Slot → ℕ → Evaluated
-variable_of vars n = cond (ltb n 16) (Known (get_or vars n blank).value) NoValue
+abbrev pub variable_of : List Slot → ℕ → Option Val
+variable_of vars n = cond (ltb n 16) (Some (get_or vars n blank).value) None
 
 -- A draw is a boolean, true for 1: the lowest bit of what is left of the word.
-abbrev pub draw_of : ℕ → Evaluated
+abbrev pub draw_of : ℕ → Option Val
 draw_of left = boolean (eqb (left % 2) 1)
 
-abbrev pub value_step : List Slot → ℕ → Read → Step Evaluated
-value_step vars left (item (Item.Constant v)) = push (Known v)
+abbrev pub value_step : List Slot → ℕ → Read → Step (Option Val)
+value_step vars left (item (Item.Constant v)) = push (Some v)
 value_step vars left (item (Item.Variable n)) = push (variable_of vars n)
 value_step vars left (item (Item.Unary u)) = change (unary_of u)
 value_step vars left (item (Item.Binary b)) = join (binary_of b)
 value_step vars left (item Item.Draw) = push (draw_of left)
-value_step vars left none = push NoValue
+value_step vars left none = push None
 
 -- Every item is evaluated; what a draw takes is gone for the items after it.
-unfoldable pub value_steps : List Slot → ℕ → List ℕ → List (Step Evaluated)
+unfoldable pub value_steps : List Slot → ℕ → List ℕ → List (Step (Option Val))
 value_steps vars left [] = []
 value_steps vars left (w ∷ ws) = value_step vars left (item_of w) ∷ value_steps vars (left / 2 ^ draws_in (item_of w)) ws
 
-abbrev pub result_of : Ran Evaluated → Evaluated
+abbrev pub result_of : Ran (Option Val) → Option Val
 result_of (gives v) = v
-result_of stuck = NoValue
+result_of stuck = None
 
-unfoldable pub value_of : List Slot → ℕ → List ℕ → Evaluated
-value_of vars word ws = unless (leb (deepest ws 0) 16) NoValue (result_of (run_of (value_steps vars word ws) []))
+unfoldable pub value_of : List Slot → ℕ → List ℕ → Option Val
+value_of vars word ws = unless (leb (deepest ws 0) 16) None (result_of (run_of (value_steps vars word ws) []))
 
 -- the value, and the word without the bits that the draws took
 unfoldable pub evaluation_of : List Slot → ℕ → List ℕ → Evaluation

@@ -13,7 +13,7 @@ use Rattle.grammar.specs.declared.items.Binary.{Binary}
 use Rattle.grammar.specs.declared.items.Binary.TheVariants.{And, Or, Add, Subtract, Multiply, Divide, Remainder, Equal, Less}
 use Rattle.grammar.specs.declared.items.Binary.TheVariants.{LessOrEqual}
 use Rattle.grammar.specs.declared.items.Item.TheVariants as Item
-use Rattle.grammar.specs.declared.evaluation.Evaluated.TheVariants.{Known}
+use Rattle.std.specs.Prelude.{Some}
 
 -- an integer outside 32 bits
 abbrev pub Outside : ℤ → Type 0
@@ -74,5 +74,5 @@ pub record Fails (vars : List Slot) (word : ℕ) (ws : List ℕ) : Type 0 where
   pub place : ℕ
   pub inside : place < length ws
   pub values : List Val
-  pub before : waits_after (value_steps vars word (take place ws)) [] ≡ map Known values
+  pub before : waits_after (value_steps vars word (take place ws)) [] ≡ map Some values
   pub here : ItemFails (item_of (get_or ws place 0)) values

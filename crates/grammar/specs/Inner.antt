@@ -13,8 +13,7 @@ use Rattle.grammar.specs.declared.items.Item.TheVariants as Item
 use Rattle.grammar.specs.declared.values.«Type».{«Type» as Kind}
 use Rattle.grammar.specs.declared.typing.Typed.{Typed}
 use Rattle.grammar.specs.declared.waiting.Waiting.{Waiting}
-use Rattle.grammar.specs.declared.evaluation.Evaluated.{Evaluated}
-use Rattle.grammar.specs.declared.evaluation.Evaluated.TheVariants.{Known, NoValue}
+use Rattle.std.specs.Prelude.{Option, Some, None}
 use Rattle.grammar.specs.declared.evaluation.Evaluation.{Evaluation}
 
 -- row w of a table of two bits a row
@@ -120,38 +119,38 @@ abbrev pub whole_of : ℕ → ℤ
 whole_of x = sub_ℕ x 2147483648
 
 -- an operand that waits
-unfoldable pub held_of : ℕ → Evaluated
+unfoldable pub held_of : ℕ → Option Val
 held_of x =
-    cond (ltb x 4294967296) (Known (Integer (whole_of x)))
-    (cond (eqb x 4294967296) (Known (Boolean false))
-    (cond (eqb x 4294967297) (Known (Boolean true)) NoValue))
+    cond (ltb x 4294967296) (Some (Integer (whole_of x)))
+    (cond (eqb x 4294967296) (Some (Boolean false))
+    (cond (eqb x 4294967297) (Some (Boolean true)) None))
 
 -- a binary operation on values and on operands; no value what is none
-unfoldable pub values_on : Read → Val → Val → Evaluated
+unfoldable pub values_on : Read → Val → Val → Option Val
 values_on (item (Item.Binary o)) a b = values_of o a b
-values_on (item (Item.Unary u)) a b = NoValue
-values_on (item (Item.Constant v)) a b = NoValue
-values_on (item (Item.Variable n)) a b = NoValue
-values_on (item Item.Draw) a b = NoValue
-values_on none a b = NoValue
+values_on (item (Item.Unary u)) a b = None
+values_on (item (Item.Constant v)) a b = None
+values_on (item (Item.Variable n)) a b = None
+values_on (item Item.Draw) a b = None
+values_on none a b = None
 
-unfoldable pub binary_on : Read → Evaluated → Evaluated → Evaluated
+unfoldable pub binary_on : Read → Option Val → Option Val → Option Val
 binary_on (item (Item.Binary o)) a b = binary_of o a b
-binary_on (item (Item.Unary u)) a b = NoValue
-binary_on (item (Item.Constant v)) a b = NoValue
-binary_on (item (Item.Variable n)) a b = NoValue
-binary_on (item Item.Draw) a b = NoValue
-binary_on none a b = NoValue
+binary_on (item (Item.Unary u)) a b = None
+binary_on (item (Item.Constant v)) a b = None
+binary_on (item (Item.Variable n)) a b = None
+binary_on (item Item.Draw) a b = None
+binary_on none a b = None
 
 -- an operand, where x is what variable k holds; no value what is none
-unfoldable pub operand_on : Val → ℕ → ℕ → Read → Evaluated
-operand_on x k left (item (Item.Constant v)) = Known v
-operand_on x k left (item (Item.Variable n)) = cond (ltb k 16) (Known x) NoValue
-operand_on x k left (item (Item.Unary u)) = NoValue
-operand_on x k left (item (Item.Binary b)) = NoValue
+unfoldable pub operand_on : Val → ℕ → ℕ → Read → Option Val
+operand_on x k left (item (Item.Constant v)) = Some v
+operand_on x k left (item (Item.Variable n)) = cond (ltb k 16) (Some x) None
+operand_on x k left (item (Item.Unary u)) = None
+operand_on x k left (item (Item.Binary b)) = None
 operand_on x k left (item Item.Draw) = draw_of left
-operand_on x k left none = NoValue
+operand_on x k left none = None
 
 -- no value, and the word without the bits that the draws took
 abbrev pub no_value_of : ℕ → List ℕ → Evaluation
-no_value_of word ws = record { value = NoValue; rest = word / 2 ^ draws_of ws }
+no_value_of word ws = record { value = None; rest = word / 2 ^ draws_of ws }

@@ -8,7 +8,7 @@ use Rattle.grammar.specs.declared.values.Slot.{Slot}
 use Rattle.grammar.specs.declared.items.Unary.{Unary}
 use Rattle.grammar.specs.declared.items.Binary.{Binary}
 use Rattle.grammar.specs.declared.items.Item.{Item}
-use Rattle.grammar.specs.declared.evaluation.Evaluated.TheVariants.{Known}
+use Rattle.std.specs.Prelude.{Some}
 use Rattle.grammar.specs.declared.evaluation.Evaluation.{Evaluation}
 
 pub data Tree : Type 0 where
@@ -32,7 +32,7 @@ words_of t = map word_of (postfix t)
 -- The value of a tree and what is left of the word: both operands are evaluated, the left one first, and the right one
 -- draws from what the left one leaves.
 unfoldable pub tree_of : List Slot → ℕ → Tree → Evaluation
-tree_of vars word (constant v) = record { value = Known v; rest = word }
+tree_of vars word (constant v) = record { value = Some v; rest = word }
 tree_of vars word (variable n) = record { value = variable_of vars n; rest = word }
 tree_of vars word draw = record { value = draw_of word; rest = word / 2 }
 tree_of vars word (unary u a) = record { value = unary_of u (tree_of vars word a).value; rest = (tree_of vars word a).rest }

@@ -16,26 +16,19 @@ fn draws_in(w: u64) -> usize
 }
 
 // How many draws there are among the items.
+#[tactic(auto, using(crate::proofs::DrawLaws::draws_sum))]
 pub fn count_draws(items: &[u64]) -> usize
     ensures { result ≡ draws_of items.now }
 {
-    let mut n: usize = 0;
-    for at in 0..items.len() {
-        n += draws_in(items[at]);
-    }
-    n
+    items.iter().map(|w| draws_in(*w)).sum()
 }
 
 // Whether there is a draw among the items.
+#[tactic(auto, using(crate::proofs::DrawLaws::draws_any))]
 pub fn has_draws(items: &[u64]) -> bool
     ensures { result ≡ ltb 0 (draws_of items.now) }
 {
-    for at in 0..items.len() {
-        if items[at] == items::DRAW {
-            return true;
-        }
-    }
-    false
+    items.contains(&items::DRAW)
 }
 
 // What an item leaves of the word: a draw takes the lowest bit.
@@ -49,12 +42,9 @@ pub(crate) fn left(word: u64, w: u64) -> u64
 }
 
 // What the items leave of the word.
+#[tactic(auto, using(crate::proofs::DrawLaws::left_fold))]
 pub(crate) fn rest(items: &[u64], word: u64) -> u64
     ensures { result ≡ word / 2 ^ draws_of items.now }
 {
-    let mut bits = word;
-    for at in 0..items.len() {
-        bits = left(bits, items[at]);
-    }
-    bits
+    items.iter().fold(word, |bits, w| left(bits, *w))
 }

@@ -5,16 +5,10 @@ ghost use Rattle.grammar.specs.Evaluation.{evaluation_of};
 use crate::inner::evaluation;
 use crate::values::{Slot, Val};
 
-#[derive(Clone, Copy)]
-pub enum Evaluated {
-    Known(Val),
-    NoValue,
-}
-
 // A value or none, and what is left of the word for the next expression.
 #[derive(Clone, Copy)]
 pub struct Evaluation {
-    pub value: Evaluated,
+    pub value: Option<Val>,
     pub rest: u64,
 }
 

@@ -2,20 +2,20 @@
 ghost use Rattle.std.specs.Prelude.{◌≡◌};
 ghost use Rattle.grammar.specs.Values.{kind_of, same_val, kind_word};
 
-#[derive(Clone, Copy)]
+#[derive(Clone, Copy, Debug, PartialEq, Eq)]
 pub enum Type {
     Boolean,
     Integer,
 }
 
-#[derive(Clone, Copy)]
+#[derive(Clone, Copy, Debug, PartialEq, Eq)]
 pub enum Val {
     Boolean(bool),
     Integer(i32),
 }
 
-// A value in an array.
-#[derive(Clone, Copy)]
+// A value in an array. It stays a struct: `evaluate`, which is public, takes `[Slot; 16]`.
+#[derive(Clone, Copy, Debug, PartialEq, Eq)]
 pub struct Slot {
     pub value: Val,
 }
@@ -26,7 +26,7 @@ pub const BOOLEAN: u64 = 0;
 pub const INTEGER: u64 = 1;
 
 impl Type {
-    // The word of a kind.
+    // The word of a kind. `From` is no plainer: `k.word()` says which number it is, `u64::from(k)` does not. So it is with an item's.
     pub fn word(self) -> u64
         ensures { result ≡ kind_word self }
     {
@@ -52,15 +52,6 @@ impl Val {
     pub fn equals(self, other: Val) -> bool
         ensures { result ≡ same_val self other }
     {
-        match self {
-            Val::Boolean(a) => match other {
-                Val::Boolean(b) => a == b,
-                Val::Integer(_) => false,
-            },
-            Val::Integer(a) => match other {
-                Val::Integer(b) => a == b,
-                Val::Boolean(_) => false,
-            },
-        }
+        self == other
     }
 }

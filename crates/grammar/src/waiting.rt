@@ -16,7 +16,8 @@ pub(crate) struct Waiting {
     pub(crate) integers: u64,
 }
 
-// None wait after an operation that is ill typed; one that is well typed leaves its result.
+// None wait after an operation that is ill typed; one that is well typed leaves its result. An `Option<Waiting>` misses the bar of
+// speed: 211 instructions a pass for 199, at 7 items.
 fn ill() -> Waiting
     ensures { (result.depth ≡ 0) × (result.integers ≡ 0) }
 {
@@ -26,116 +27,118 @@ fn ill() -> Waiting
     }
 }
 
-// + - * / %
-fn arithmetic(depth: usize, integers: u64) -> Waiting
-    requires { integers < 2 ^ depth }
-    ensures { Left (join (takes2 Integer Integer)) depth integers result }
-{
-    if integers % 4 != 3 {
-        return ill();
-    }
-    Waiting {
-        depth: depth - 1,
-        integers: integers / 2,
-    }
-}
-
-// < and <=
-fn order(depth: usize, integers: u64) -> Waiting
-    requires { integers < 2 ^ depth }
-    ensures { Left (join (takes2 Integer Boolean)) depth integers result }
-{
-    if integers % 4 != 3 {
-        return ill();
-    }
-    Waiting {
-        depth: depth - 1,
-        integers: integers / 2 - 1,
-    }
-}
-
-// and, or
-fn logic(depth: usize, integers: u64) -> Waiting
-    requires { integers < 2 ^ depth }
-    ensures { Left (join (takes2 Boolean Boolean)) depth integers result }
-{
-    if depth < 2 {
-        return ill();
-    }
-    if integers % 4 != 0 {
-        return ill();
-    }
-    Waiting {
-        depth: depth - 1,
-        integers: integers / 2,
-    }
-}
-
-// =
-fn equal(depth: usize, integers: u64) -> Waiting
-    requires { integers < 2 ^ depth }
-    ensures { Left (join alike) depth integers result }
-{
-    if integers % 4 == 3 {
-        return Waiting {
-            depth: depth - 1,
-            integers: integers / 2 - 1,
-        };
-    }
-    if depth < 2 {
-        return ill();
-    }
-    if integers % 4 != 0 {
-        return ill();
-    }
-    Waiting {
-        depth: depth - 1,
-        integers: integers / 2,
-    }
-}
-
-fn negate(depth: usize, integers: u64) -> Waiting
-    requires { integers < 2 ^ depth }
-    ensures { Left (change (takes1 Integer Integer)) depth integers result }
-{
-    if integers % 2 != 1 {
-        return ill();
-    }
-    Waiting { depth, integers }
-}
-
-fn not(depth: usize, integers: u64) -> Waiting
-    requires { integers < 2 ^ depth }
-    ensures { Left (change (takes1 Boolean Boolean)) depth integers result }
-{
-    if integers % 2 != 0 {
-        return ill();
-    }
-    Waiting { depth, integers }
-}
-
-// What the operation of a word leaves.
-pub(crate) fn operated(w: u64, depth: usize, integers: u64) -> Waiting
-    requires { (w < 13) × (integers < 2 ^ depth) }
-    ensures { Left (kind_step [] (item_of w)) depth integers result }
-{
-    if w < items::ADD {
-        if w == items::NEGATE {
-            return negate(depth, integers);
-        }
-        if w == items::NOT {
-            return not(depth, integers);
-        }
-        if w == 0 {
+impl Waiting {
+    // + - * / %
+    fn arithmetic(self) -> Waiting
+        requires { self.integers < 2 ^ self.depth }
+        ensures { Left (join (takes2 Integer Integer)) self.depth self.integers result }
+    {
+        if self.integers % 4 != 3 {
             return ill();
         }
-        return logic(depth, integers);
+        Waiting {
+            depth: self.depth - 1,
+            integers: self.integers / 2,
+        }
     }
-    if w < items::EQUAL {
-        return arithmetic(depth, integers);
+
+    // < and <=
+    fn order(self) -> Waiting
+        requires { self.integers < 2 ^ self.depth }
+        ensures { Left (join (takes2 Integer Boolean)) self.depth self.integers result }
+    {
+        if self.integers % 4 != 3 {
+            return ill();
+        }
+        Waiting {
+            depth: self.depth - 1,
+            integers: self.integers / 2 - 1,
+        }
     }
-    if w == items::EQUAL {
-        return equal(depth, integers);
+
+    // and, or
+    fn logic(self) -> Waiting
+        requires { self.integers < 2 ^ self.depth }
+        ensures { Left (join (takes2 Boolean Boolean)) self.depth self.integers result }
+    {
+        if self.depth < 2 {
+            return ill();
+        }
+        if self.integers % 4 != 0 {
+            return ill();
+        }
+        Waiting {
+            depth: self.depth - 1,
+            integers: self.integers / 2,
+        }
     }
-    order(depth, integers)
+
+    // =
+    fn equal(self) -> Waiting
+        requires { self.integers < 2 ^ self.depth }
+        ensures { Left (join alike) self.depth self.integers result }
+    {
+        if self.integers % 4 == 3 {
+            return Waiting {
+                depth: self.depth - 1,
+                integers: self.integers / 2 - 1,
+            };
+        }
+        if self.depth < 2 {
+            return ill();
+        }
+        if self.integers % 4 != 0 {
+            return ill();
+        }
+        Waiting {
+            depth: self.depth - 1,
+            integers: self.integers / 2,
+        }
+    }
+
+    fn negate(self) -> Waiting
+        requires { self.integers < 2 ^ self.depth }
+        ensures { Left (change (takes1 Integer Integer)) self.depth self.integers result }
+    {
+        if self.integers % 2 != 1 {
+            return ill();
+        }
+        self
+    }
+
+    fn not(self) -> Waiting
+        requires { self.integers < 2 ^ self.depth }
+        ensures { Left (change (takes1 Boolean Boolean)) self.depth self.integers result }
+    {
+        if self.integers % 2 != 0 {
+            return ill();
+        }
+        self
+    }
+
+    // What the operation of a word leaves.
+    pub(crate) fn operated(self, w: u64) -> Waiting
+        requires { (w < 13) × (self.integers < 2 ^ self.depth) }
+        ensures { Left (kind_step [] (item_of w)) self.depth self.integers result }
+    {
+        if w < items::ADD {
+            if w == items::NEGATE {
+                return self.negate();
+            }
+            if w == items::NOT {
+                return self.not();
+            }
+            if w == 0 {
+                return ill();
+            }
+            return self.logic();
+        }
+        if w < items::EQUAL {
+            return self.arithmetic();
+        }
+        if w == items::EQUAL {
+            return self.equal();
+        }
+        self.order()
+    }
 }

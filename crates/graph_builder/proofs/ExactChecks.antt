@@ -1,4 +1,5 @@
 -- Each check accepts what its facts allow: the other way round from ReadyParts and ReadyActions of `graph_checks`.
+use Rattle.std.specs.Prelude.{⊤}
 use Prim.Native.Nat.{ℕ, zero, suc, ◌+◌, ◌<◌, ◌≤◌}
 use mathlib.Core.Path.{◌≡◌, refl, sym}
 use mathlib.Core.Bool.{Bool, true, false}
@@ -17,15 +18,13 @@ use Rattle.grammar.specs.declared.values.«Type».{«Type» as Kind}
 use Rattle.grammar.specs.declared.typing.Typed.TheVariants.{Known}
 use Rattle.graph_tables.specs.Sizes.{process_room, location_room, action_room, transition_room, variable_room, clock_room, limit_room, effect_room}
 use Rattle.graph_tables.specs.Sizes.{reset_room, draw_room, message_room, plain_kind, send_kind, receive_kind}
-use Rattle.graph_tables.specs.Answers.{done_number, placed_number}
+use Rattle.graph_tables.specs.Answers.{Answer, admitted, answer_number}
 use Rattle.graph_tables.specs.Handed.{handed_var}
 use Rattle.graph_tables.specs.declared.handed.Limits.{Limits}
 use Rattle.graph_tables.specs.declared.handed.Vars.{Vars}
 use Rattle.graph_tables.specs.Words.{variable_count, clock_count, location_count, action_count, process_count, transition_count, kind_at, kinds_of}
 use Rattle.graph_tables.specs.Words.{action_kind, reset_count, effect_count, epsilon}
 use Rattle.graph_tables.specs.Formed.{well_formed, effect_draws, action_known}
-use Rattle.graph_tables.specs.declared.answers.Done.{Done}
-use Rattle.graph_tables.specs.declared.answers.Done.TheVariants.{Accepted}
 use Rattle.graph_edits.specs.Edits.{ClocksKnown}
 use Rattle.graph_checks.specs.Checks.{◌then◌, each_below, room_for, var_check, clock_check, action_check, zero_at, place_check, process_check}
 use Rattle.graph_checks.specs.Checks.{clock_known, clocks_known, limits_check, location_check, plain_check, room_for_reset, reset_check}
@@ -39,25 +38,25 @@ use Rattle.graph_builder.specs.Chains.{new_var, new_clock, new_action, new_proce
 use Rattle.graph_builder.specs.Chains.{new_timed_location, add_transition, answer_of}
 
 -- ---- checks in their order
-on : {b : Bool} (refused : Done) {rest : Done} → b ≡ true → rest ≡ Accepted → unless b refused rest ≡ Accepted
+on : {b : Bool} (refused : Answer ⊤) {rest : Answer ⊤} → b ≡ true → rest ≡ admitted → unless b refused rest ≡ admitted
 on refused e k = sym (passed refused e (sym k))
 
-next : {c rest : Done} → c ≡ Accepted → rest ≡ Accepted → (c then rest) ≡ Accepted
+next : {c rest : Answer ⊤} → c ≡ admitted → rest ≡ admitted → (c then rest) ≡ admitted
 next e k = sym (then_on e (sym k))
 
-each : (n : ℕ) (f : ℕ → Done) → ((i : ℕ) → i < n → f i ≡ Accepted) → each_below n f ≡ Accepted
+each : (n : ℕ) (f : ℕ → Answer ⊤) → ((i : ℕ) → i < n → f i ≡ admitted) → each_below n f ≡ admitted
 unfolding each_below
 each zero f h = refl
 each (suc n) f h = next (each n f (λ i l. h i (omega arith))) (h n (omega arith))
 
-room : {n size : ℕ} → n < size → room_for n size Accepted ≡ Accepted
+room : {n size : ℕ} → n < size → room_for n size admitted ≡ admitted
 room {n} {size} l = on _ (lt-ltb n size l) refl
 
 -- an answer to a check that is passed is ok
-done_ok : (c : Done) (t u : List ℕ) → c ≡ Accepted → done_number (done_if c t u).answer ≡ 0
+done_ok : (c : Answer ⊤) (t u : List ℕ) → c ≡ admitted → answer_number (done_if c t u).answer ≡ 0
 done_ok c t u e = rw e
 
-placed_ok : (c : Done) (t : List ℕ) (n : ℕ) (u : List ℕ) → c ≡ Accepted → placed_number (placed_if c t n u).answer ≡ 0
+placed_ok : (c : Answer ⊤) (t : List ℕ) (n : ℕ) (u : List ℕ) → c ≡ admitted → answer_number (placed_if c t n u).answer ≡ 0
 placed_ok c t n u e = rw e
 
 -- ---- the calls
@@ -78,7 +77,7 @@ module _ (t : List ℕ) (formed : well_formed t true ≡ true) where
   unfolding new_process_of process_check place_check
   process_ok l known inside few = done_ok (process_check t l) t _ (on _ formed (on _ (lt-ltb _ _ known) (on _ inside (room few))))
 
-  limits_ok : (l : Limits) → l.count ≤ limit_room → ClocksKnown t l → limits_check t l ≡ Accepted
+  limits_ok : (l : Limits) → l.count ≤ limit_room → ClocksKnown t l → limits_check t l ≡ admitted
   unfolding limits_check clocks_known clock_known
   limits_ok l few known = on _ (le-leb _ _ few) (on _ (all_from (clock_known t l) l.count (λ i m. lt-ltb _ _ (known i m))) refl)
 
@@ -87,7 +86,7 @@ module _ (t : List ℕ) (formed : well_formed t true ≡ true) where
   unfolding new_timed_location_of location_check
   location_ok l few known free = placed_ok (location_check t l) t _ _ (on _ formed (next (limits_ok l few known) (room free)))
 
-  plain_ok : (a : ℕ) → a < action_count t → action_kind t a ≡ plain_kind → plain_check t a ≡ Accepted
+  plain_ok : (a : ℕ) → a < action_count t → action_kind t a ≡ plain_kind → plain_check t a ≡ admitted
   unfolding plain_check
   plain_ok a known kind =
       on _ (lt-ltb _ _ known)
@@ -129,11 +128,11 @@ module _ (t : List ℕ) (formed : well_formed t true ≡ true) where
       placed_ok (receive_check t v) t _ _
       (on _ formed (on _ (le-leb _ _ few) (on _ (all_from (var_known t v) v.count (λ i l. lt-ltb _ _ (known i l))) (room free))))
 
-  guard_ok : (ws : List ℕ) → type_of (kinds_of t) ws ≡ Known Kind.Boolean → draws_of ws ≡ 0 → guard_check t ws ≡ Accepted
+  guard_ok : (ws : List ℕ) → type_of (kinds_of t) ws ≡ Known Kind.Boolean → draws_of ws ≡ 0 → guard_check t ws ≡ admitted
   unfolding guard_check
   guard_ok ws typed draws = rw typed (on _ refl (on _ refl (on _ (eq-eqb _ _ draws) (on _ refl refl))))
 
-  guarded_ok : (guarded : Bool) (check : Done) → (guarded ≡ true → check ≡ Accepted) → if_guarded guarded check ≡ Accepted
+  guarded_ok : (guarded : Bool) (check : Answer ⊤) → (guarded ≡ true → check ≡ admitted) → if_guarded guarded check ≡ admitted
   guarded_ok true check h = h refl
   guarded_ok false check h = refl
 

@@ -1,4 +1,5 @@
 -- 32 is the answer exactly where no chain of calls builds what is in the table.
+use Rattle.std.specs.Prelude.{⊤}
 use Prim.Native.Nat.{ℕ, ◌<◌}
 use mathlib.Core.Path.{◌≡◌, refl, sym}
 use mathlib.Core.Logic.{◌↔◌}
@@ -6,13 +7,12 @@ use mathlib.Core.Bool.{Bool, true, false}
 use mathlib.Core.List.{List}
 use borrow.Author.Tests.{lt-ltb}
 use Rattle.laws.specs.Ladder.{unless}
-use Rattle.graph_tables.specs.Answers.{done_number, placed_number, var_type_number}
+use Rattle.graph_tables.specs.Answers.{Answer, answer_number}
 use Rattle.graph_tables.specs.Words.{Words, variable_count, clock_count, location_count, action_count, process_count, transition_count}
 use Rattle.graph_tables.specs.Formed.{well_formed}
 use Rattle.graph_tables.specs.Sound.{Sound}
 use Rattle.graph_tables.proofs.SoundLaws.{sound, started}
 use Rattle.graph_tables.proofs.KeptLaws.{apart, together}
-use Rattle.graph_tables.specs.declared.answers.Done.{Done}
 use Rattle.graph_edits.specs.Lists.{list_of}
 use Rattle.graph_checks.specs.Checks.{on_table, var_check, clock_check, action_check, process_check, reset_check, effect_check, send_check}
 use Rattle.graph_checks.specs.Checks.{receive_check, location_check, initial_check, transition_check}
@@ -91,12 +91,12 @@ module _ (s t : List ℕ) (words : Words s) where
   )
 
 -- ---- calls on a table that is not well formed
-bad_done : (t : List ℕ) (rest : Done) (u : List ℕ) → well_formed t true ≡ false → done_number (done_if (on_table t rest) t u).answer ≡ 32
+bad_done : (t : List ℕ) (rest : Answer ⊤) (u : List ℕ) → well_formed t true ≡ false → answer_number (done_if (on_table t rest) t u).answer ≡ 32
 unfolding unless
 bad_done t rest u bad = rw bad
 
-bad_placed : (t : List ℕ) (rest : Done) (n : ℕ) (u : List ℕ) → well_formed t true ≡ false
-    → placed_number (placed_if (on_table t rest) t n u).answer ≡ 32
+bad_placed : (t : List ℕ) (rest : Answer ⊤) (n : ℕ) (u : List ℕ) → well_formed t true ≡ false
+    → answer_number (placed_if (on_table t rest) t n u).answer ≡ 32
 unfolding unless
 bad_placed t rest n u bad = rw bad
 
@@ -132,10 +132,10 @@ module _ (s t : List ℕ) (words : Words s) where
   pub call_32 : (c : Call) → (answer_of t c ≡ 32) ↔ (Buildable s t → ⊥)
   call_32 c = exactly (answer_of t c) (call_known t c) (bad_call t c)
 
-  pub kind_32 : (v : ℕ) → (var_type_number (var_type_of t v) ≡ 32) ↔ (Buildable s t → ⊥)
+  pub kind_32 : (v : ℕ) → (answer_number (var_type_of t v) ≡ 32) ↔ (Buildable s t → ⊥)
   unfolding var_type_of unless
-  kind_32 v = exactly (var_type_number (var_type_of t v)) (kind_known_lem t v) (λ bad. rw bad)
+  kind_32 v = exactly (answer_number (var_type_of t v)) (kind_known_lem t v) (λ bad. rw bad)
 
-  pub build_32 : (done_number (build_of t) ≡ 32) ↔ (Buildable s t → ⊥)
+  pub build_32 : (answer_number (build_of t) ≡ 32) ↔ (Buildable s t → ⊥)
   unfolding build_of unless
-  build_32 = exactly (done_number (build_of t)) (build_known t) (λ bad. rw bad)
+  build_32 = exactly (answer_number (build_of t)) (build_known t) (λ bad. rw bad)

@@ -1,4 +1,6 @@
 -- Each building call leaves a well-formed table well formed: the parts of the theorem.
+use Rattle.graph_tables.specs.Answers.{Answer, admitted}
+use Rattle.std.specs.Prelude.{⊤}
 use Prim.Native.Nat.{ℕ, ◌<◌, ◌≤◌}
 use mathlib.Core.Path.{◌≡◌, refl}
 use mathlib.Core.Bool.{Bool, true, false, cond, ◌||◌}
@@ -29,9 +31,6 @@ use Rattle.graph_edits.proofs.LocationFormed.{location_formed_lem, initial_forme
 use Rattle.graph_edits.proofs.EffectFormed.{effect_formed_lem}
 use Rattle.graph_edits.proofs.ActionFormed.{action_formed_lem, send_formed_lem, receive_formed_lem}
 use Rattle.graph_edits.proofs.TransitionFormed.{GuardFits, transition_formed_lem}
-use Rattle.graph_tables.specs.declared.answers.Placed.{Placed}
-use Rattle.graph_tables.specs.declared.answers.Done.{Done}
-use Rattle.graph_tables.specs.declared.answers.Done.TheVariants.{Accepted}
 use Rattle.graph_checks.specs.Checks.{var_check, clock_check, action_check, process_check, reset_check, effect_check, send_check, receive_check}
 use Rattle.graph_checks.specs.Checks.{location_check, initial_check, transition_check}
 use Rattle.graph_builder.specs.Building.{Outcome, done_if, placed_if, payload_of, new_var_of, new_clock_of, new_action_of, new_process_of}
@@ -46,12 +45,12 @@ abbrev WellFormed : List ℕ → Type 0
 WellFormed t = well_formed t true ≡ true
 
 -- ---- a refusal leaves the table; what is accepted is well formed
-done_stays : (c : Done) (t u : List ℕ) → WellFormed t → (c ≡ Accepted → Formed u) → WellFormed (done_if c t u).table
-done_stays c t u h k = done_if_lem (λ (o : Outcome Done). WellFormed o.table) c t u (λ r. h) (λ e. together u (k e))
+done_stays : (c : Answer ⊤) (t u : List ℕ) → WellFormed t → (c ≡ admitted → Formed u) → WellFormed (done_if c t u).table
+done_stays c t u h k = done_if_lem (λ (o : Outcome (Answer ⊤)). WellFormed o.table) c t u (λ r. h) (λ e. together u (k e))
 
-placed_stays : (c : Done) (t : List ℕ) (n : ℕ) (u : List ℕ) → WellFormed t → (c ≡ Accepted → Formed u)
+placed_stays : (c : Answer ⊤) (t : List ℕ) (n : ℕ) (u : List ℕ) → WellFormed t → (c ≡ admitted → Formed u)
     → WellFormed (placed_if c t n u).table
-placed_stays c t n u h k = placed_if_lem (λ (o : Outcome Placed). WellFormed o.table) c t n u (λ r. h) (λ e. together u (k e))
+placed_stays c t n u h k = placed_if_lem (λ (o : Outcome (Answer ℕ)). WellFormed o.table) c t n u (λ r. h) (λ e. together u (k e))
 
 -- a value's kind and bits
 val_formed : (v : Val) → payload_of v < word32

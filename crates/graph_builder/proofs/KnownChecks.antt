@@ -1,4 +1,5 @@
 -- On a well-formed table no check refuses with 32.
+use Rattle.std.specs.Prelude.{Ok, Err, ⊤}
 use Prim.Native.Nat.{ℕ, zero, suc}
 use mathlib.Core.Path.{◌≡◌}
 use mathlib.Core.Logic.{◌≢◌}
@@ -8,13 +9,11 @@ use native.Mathlib.Omega.{arith}
 use Rattle.laws.specs.Ladder.{unless}
 use Rattle.laws.proofs.Ladder.{rung}
 use Rattle.grammar.specs.declared.typing.Typed.{Typed}
-use Rattle.graph_tables.specs.Answers.{done_number}
+use Rattle.graph_tables.specs.Answers.{Answer, admitted, answer_number}
 use Rattle.graph_tables.specs.declared.handed.Limits.{Limits}
 use Rattle.graph_tables.specs.declared.handed.Vars.{Vars}
 use Rattle.graph_tables.specs.Words.{kinds_of}
 use Rattle.graph_tables.specs.Formed.{well_formed}
-use Rattle.graph_tables.specs.declared.answers.Done.{Done}
-use Rattle.graph_tables.specs.declared.answers.Done.TheVariants.{Accepted, Refused}
 use Rattle.graph_checks.specs.Checks.{refused_by, ◌then◌, each_below, on_table, var_check, clock_check, action_check, place_check, process_check}
 use Rattle.graph_checks.specs.Checks.{limits_check, location_check, start_check, initial_check, plain_check, room_for_reset, reset_check}
 use Rattle.graph_checks.specs.Checks.{room_for_effect, assigned_check, action_effect_check, known_effect_check, effect_check, typed_check}
@@ -22,33 +21,32 @@ use Rattle.graph_checks.specs.Checks.{expression_check, send_room, send_check, r
 use Rattle.graph_checks.specs.Checks.{conditions_check, transition_check}
 
 -- it does not answer 32
-abbrev pub Known : Done → Type 0
-Known d = done_number d ≢ 32
+abbrev pub Known : Answer ⊤ → Type 0
+Known d = answer_number d ≢ 32
 
 -- ---- checks in their order
-pub else_known : (b : Bool) (refused rest : Done) → Known refused → Known rest → Known (unless b refused rest)
+pub else_known : (b : Bool) (refused rest : Answer ⊤) → Known refused → Known rest → Known (unless b refused rest)
 else_known b refused rest h k = rung Known b refused rest h (λ e. k)
 
-pub then_known : (c rest : Done) → Known c → Known rest → Known (c then rest)
-unfolding ◌then◌
-then_known Accepted rest h k = k
-then_known (Refused r) rest h k = h
+pub then_known : (c rest : Answer ⊤) → Known c → Known rest → Known (c then rest)
+then_known (Ok _) rest h k = k
+then_known (Err r) rest h k = h
 
-each_known : (n : ℕ) (f : ℕ → Done) → ((i : ℕ) → Known (f i)) → Known (each_below n f)
+each_known : (n : ℕ) (f : ℕ → Answer ⊤) → ((i : ℕ) → Known (f i)) → Known (each_below n f)
 unfolding each_below
 each_known zero f h = omega arith
 each_known (suc n) f h = then_known (each_below n f) (f n) (each_known n f h) (h n)
 
-guarded_known : (guarded : Bool) (check : Done) → Known check → Known (if_guarded guarded check)
+guarded_known : (guarded : Bool) (check : Answer ⊤) → Known check → Known (if_guarded guarded check)
 guarded_known true check h = h
 guarded_known false check h = omega arith
 
-ok : Known Accepted
+ok : Known admitted
 ok = omega arith
 
 -- the last rungs, whose numbers are told
-one_rung : (b : Bool) (refused : Done) → Known refused → Known (unless b refused Accepted)
-one_rung b refused h = else_known b refused Accepted h ok
+one_rung : (b : Bool) (refused : Answer ⊤) → Known refused → Known (unless b refused admitted)
+one_rung b refused h = else_known b refused admitted h ok
 
 limits_known_lem : (t : List ℕ) (l : Limits) → Known (limits_check t l)
 unfolding limits_check
@@ -94,7 +92,7 @@ guard_known t ws =
 
 -- ---- the checks of the calls
 module _ (t : List ℕ) (formed : well_formed t true ≡ true) where
-  table_known : (rest : Done) → Known rest → Known (on_table t rest)
+  table_known : (rest : Answer ⊤) → Known rest → Known (on_table t rest)
   unfolding unless
   table_known rest k = rw formed k
 

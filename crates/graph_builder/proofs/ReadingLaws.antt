@@ -1,4 +1,5 @@
 -- Each accepted call's table reads as the old graph with one part more: the parts of the theorem.
+use Rattle.std.specs.Prelude.{Ok, Err, ⊤}
 use Prim.Native.Nat.{ℕ, ◌+◌, ◌<◌}
 use mathlib.Core.Path.{◌≡◌, refl, sym, ap, ◌∙◌}
 use mathlib.Core.Bool.{Bool, true, false, cond}
@@ -12,14 +13,12 @@ use Rattle.grammar.specs.declared.values.Val.{Val}
 use Rattle.grammar.specs.declared.values.Val.TheVariants.{Boolean, Integer}
 use Rattle.graph_tables.specs.Layout.{variables_cell, clocks_cell, locations_cell, actions_cell, processes_cell, transitions_cell, post_span}
 use Rattle.graph_tables.specs.Sizes.{word32, plain_kind}
-use Rattle.graph_tables.specs.Answers.{done_number, placed_number}
+use Rattle.graph_tables.specs.Answers.{Answer, admitted, answer_number}
 use Rattle.graph_tables.specs.declared.handed.Limits.{Limits}
 use Rattle.graph_tables.specs.declared.handed.Vars.{Vars}
 use Rattle.graph_tables.specs.Words.{variable_count, clock_count, location_count, action_count, process_count, place_at, key_with}
 use Rattle.graph_tables.proofs.NumberLaws.{above_ok}
 use Rattle.graph_tables.proofs.KeptLaws.{apart}
-use Rattle.graph_tables.specs.declared.answers.Done.{Done}
-use Rattle.graph_tables.specs.declared.answers.Done.TheVariants.{Accepted, Refused}
 use Rattle.graph_edits.specs.Edits.{with_var, with_clock, with_action, with_process, with_location, with_reset, with_effect, with_send, with_receive}
 use Rattle.graph_edits.specs.Edits.{with_transition}
 use Rattle.graph_edits.specs.Lists.{changed_at, variable_at, variables_of, places_of, StoredLimit, invariants_of, locations_of, StoredAction}
@@ -106,15 +105,15 @@ module _ (t u : List ℕ) where
       here
 
 -- ---- an accepted answer says that the check passed, and what the table is
-pub done_reads : (c : Done) (t u : List ℕ) (g : Graph) → (c ≡ Accepted → graph_of u ≡ g)
-    → done_number (done_if c t u).answer ≡ 0 → graph_of (done_if c t u).table ≡ g
-done_reads Accepted t u g k e = k refl
-done_reads (Refused r) t u g k e = absurd (above_ok r e)
+pub done_reads : (c : Answer ⊤) (t u : List ℕ) (g : Graph) → (c ≡ admitted → graph_of u ≡ g)
+    → answer_number (done_if c t u).answer ≡ 0 → graph_of (done_if c t u).table ≡ g
+done_reads (Ok _) t u g k e = k refl
+done_reads (Err r) t u g k e = absurd (above_ok r e)
 
-pub placed_reads : (c : Done) (t : List ℕ) (n : ℕ) (u : List ℕ) (g : Graph) → (c ≡ Accepted → graph_of u ≡ g)
-    → placed_number (placed_if c t n u).answer ≡ 0 → graph_of (placed_if c t n u).table ≡ g
-placed_reads Accepted t n u g k e = k refl
-placed_reads (Refused r) t n u g k e = absurd (above_ok r e)
+pub placed_reads : (c : Answer ⊤) (t : List ℕ) (n : ℕ) (u : List ℕ) (g : Graph) → (c ≡ admitted → graph_of u ≡ g)
+    → answer_number (placed_if c t n u).answer ≡ 0 → graph_of (placed_if c t n u).table ≡ g
+placed_reads (Ok _) t n u g k e = k refl
+placed_reads (Err r) t n u g k e = absurd (above_ok r e)
 
 -- ---- what each check lets in
 -- a value comes back from its kind and its bits
@@ -130,7 +129,7 @@ reads_action t u x k e =
     reads_grown t u (eqb actions_cell) k refl ∙ ap (λ (y : StoredAction). actions_now (graph_of t) (actions_of t ++ (y ∷ []))) e
 
 module _ (t : List ℕ) where
-  pub var_reads : (v : Val) → FitVal v → var_check t ≡ Accepted
+  pub var_reads : (v : Val) → FitVal v → var_check t ≡ admitted
       → graph_of (with_var t (kind_word (kind_of v)) (payload_of v)) ≡ added (new_var v) (graph_of t)
   var_reads v fit e =
       let f = apart t _ (var_ready t e).0 in
@@ -138,23 +137,23 @@ module _ (t : List ℕ) where
       reads_grown t _ (eqb variables_cell) (var_keeps t _ _ f room) refl
       ∙ ap (λ (x : Val). variables_now (graph_of t) (variables_of t ++ (x ∷ []))) (var_read_lem t _ _ f room ∙ stored v fit)
 
-  pub clock_reads : clock_check t ≡ Accepted → graph_of (with_clock t) ≡ added new_clock (graph_of t)
+  pub clock_reads : clock_check t ≡ admitted → graph_of (with_clock t) ≡ added new_clock (graph_of t)
   clock_reads e = reads_grown t _ (eqb clocks_cell) (clock_keeps t (apart t _ (clock_ready t e).0)) refl
 
-  pub process_reads : (l : ℕ) → process_check t l ≡ Accepted → graph_of (with_process t l) ≡ added (new_process l) (graph_of t)
+  pub process_reads : (l : ℕ) → process_check t l ≡ admitted → graph_of (with_process t l) ≡ added (new_process l) (graph_of t)
   process_reads l e =
       let r = process_ready_lem t l e in
       let f = apart t _ r.formed in
       reads_grown t _ (eqb processes_cell) (process_keeps t l f r.room) refl
       ∙ ap (λ (x : ℕ). processes_now (graph_of t) (places_of t ++ (x ∷ []))) (process_read t l f r.room)
 
-  pub action_reads : action_check t ≡ Accepted → graph_of (with_action t plain_kind 0) ≡ added new_action (graph_of t)
+  pub action_reads : action_check t ≡ admitted → graph_of (with_action t plain_kind 0) ≡ added new_action (graph_of t)
   action_reads e =
       let f = apart t _ (action_ready t e).0 in
       let room = (action_ready t e).1 in
       reads_action t _ _ (action_keeps t f room) (action_read t f room)
 
-  pub send_reads : (m : ℕ → List ℕ) (count : ℕ) → send_check t m count ≡ Accepted
+  pub send_reads : (m : ℕ → List ℕ) (count : ℕ) → send_check t m count ≡ admitted
       → graph_of (with_send t m count) ≡ added (new_send m count) (graph_of t)
   send_reads m count e =
       let r = send_ready t m count e in
@@ -162,13 +161,13 @@ module _ (t : List ℕ) where
       let short : Short m count = λ i l. (r.expression i l).0 in
       reads_action t _ _ (send_keeps t m count f r.room r.few short) (send_read t m count f r.room r.few short)
 
-  pub receive_reads : (v : Vars) → receive_check t v ≡ Accepted → graph_of (with_receive t v) ≡ added (new_receive v) (graph_of t)
+  pub receive_reads : (v : Vars) → receive_check t v ≡ admitted → graph_of (with_receive t v) ≡ added (new_receive v) (graph_of t)
   receive_reads v e =
       let r = receive_ready t v e in
       let f = apart t _ r.formed in
       reads_action t _ _ (receive_keeps t v f r.room r.few) (receive_read t v f r.room r.few)
 
-  pub location_reads : (l : Limits) → location_check t l ≡ Accepted → graph_of (with_location t l) ≡ added (new_timed_location l) (graph_of t)
+  pub location_reads : (l : Limits) → location_check t l ≡ admitted → graph_of (with_location t l) ≡ added (new_timed_location l) (graph_of t)
   location_reads l e =
       let r = location_ready t l e in
       let f = apart t _ r.formed in
@@ -176,7 +175,7 @@ module _ (t : List ℕ) where
       reads_grown t _ (eqb locations_cell) (location_keeps t l f r.room few) refl
       ∙ ap (λ (x : List StoredLimit). locations_now (graph_of t) (locations_of t ++ (x ∷ []))) (invariants_list t l f.words r.room few)
 
-  pub initial_reads : (l : Limits) → initial_check t l ≡ Accepted
+  pub initial_reads : (l : Limits) → initial_check t l ≡ admitted
       → graph_of (with_location (with_process t (location_count t)) l) ≡ added (new_initial_location l) (graph_of t)
   initial_reads l e =
       let r = initial_ready t l e in
@@ -192,7 +191,7 @@ module _ (t : List ℕ) where
       settled_at : List StoredLimit → ℕ → Graph
       settled_at x p = processes_now (locations_now (graph_of t) (locations_of t ++ (x ∷ []))) (places_of t ++ (p ∷ []))
 
-  pub reset_reads : (a clock : ℕ) → reset_check t a clock ≡ Accepted → graph_of (with_reset t a clock) ≡ added (add_reset a clock) (graph_of t)
+  pub reset_reads : (a clock : ℕ) → reset_check t a clock ≡ admitted → graph_of (with_reset t a clock) ≡ added (add_reset a clock) (graph_of t)
   reset_reads a clock e =
       let r = reset_ready t a clock e in
       let f = apart t _ r.formed in
@@ -201,7 +200,7 @@ module _ (t : List ℕ) where
       reads_changed t _ a (with_clock_reset clock) (reset_keeps t a clock f known r.room) known
       (reset_read t a clock f known r.room kind ∙ ap (with_clock_reset clock) (sym (plain_at t a kind)))
 
-  pub effect_reads : (a v : ℕ) (ws : List ℕ) → effect_check t a v ws ≡ Accepted
+  pub effect_reads : (a v : ℕ) (ws : List ℕ) → effect_check t a v ws ≡ admitted
       → graph_of (with_effect t a v ws) ≡ added (add_effect a v ws) (graph_of t)
   effect_reads a v ws e =
       let r = effect_ready t a v ws e in
@@ -209,7 +208,7 @@ module _ (t : List ℕ) where
       reads_changed t _ a (with_assignment v ws) (effect_keeps t a v ws f r.known r.few r.short) r.known
       (effect_read t a v ws f r.known r.few r.short r.plain ∙ ap (with_assignment v ws) (sym (plain_at t a r.plain)))
 
-  pub transition_reads : (pre a post : ℕ) (guarded : Bool) (ws : List ℕ) (l : Limits) → transition_check t pre a post guarded ws l ≡ Accepted
+  pub transition_reads : (pre a post : ℕ) (guarded : Bool) (ws : List ℕ) (l : Limits) → transition_check t pre a post guarded ws l ≡ admitted
       → graph_of (with_transition t (key_with pre a post) (guard_of guarded ws) l) ≡ added (add_transition pre a post guarded ws l) (graph_of t)
   transition_reads pre a post guarded ws l e =
       let r = transition_ready t pre a post guarded ws l e in

@@ -1,4 +1,5 @@
 -- What holds of building a graph. Further: ExactTheorems (32 exactly where no calls build what is there).
+use Rattle.std.specs.Prelude.{Ok, Err, ⊤}
 use Prim.Native.Nat.{ℕ, zero, suc, ◌+◌, ◌<◌}
 use mathlib.Core.Path.{◌≡◌, refl, sym, ap, subst, ◌∙◌}
 use mathlib.Core.Logic.{◌≢◌, ◌↔◌}
@@ -12,16 +13,15 @@ use Rattle.laws.specs.Ladder.{unless}
 use Rattle.laws.specs.Below.{◌and◌, all_below}
 use Rattle.laws.proofs.Ladder.{rung}
 use Rattle.laws.proofs.BelowLaws.{and_first, and_rest, and_both}
+use Rattle.grammar.specs.declared.values.«Type».{«Type»}
 use Rattle.grammar.specs.declared.values.«Type».TheVariants as Kind
 use Rattle.graph_tables.specs.Layout.{table_words}
-use Rattle.graph_tables.specs.Answers.{done_number, placed_number, var_type_number}
+use Rattle.graph_tables.specs.Answers.{Answer, admitted, answer_number}
 use Rattle.graph_tables.specs.Refusals.{refusal}
 use Rattle.graph_tables.specs.Words.{Words, variable_count, process_count, transition_count, kind_at, key_of, pre_of, action_of, post_of, key_with}
 use Rattle.graph_tables.specs.Formed.{well_formed, counts_formed, started_of, parts_formed}
 use Rattle.graph_tables.proofs.SoundLaws.{sound}
 use Rattle.graph_tables.proofs.KeptLaws.{apart, together}
-use Rattle.graph_tables.specs.declared.answers.Done.{Done}
-use Rattle.graph_tables.specs.declared.answers.VarType.{VarType}
 use Rattle.graph_edits.specs.Lists.{list_of, Before}
 use Rattle.graph_edits.proofs.KeyLaws.{key_back, key_order}
 use Rattle.graph_checks.specs.Checks.{var_check, clock_check, action_check, process_check, reset_check, effect_check, send_check, receive_check}
@@ -90,11 +90,11 @@ reads_as t (add_transition pre a post guarded ws l) fit e =
 abbrev Untouched : {A : Type 0} → (A → ℕ) → List ℕ → Outcome A → Type 0
 Untouched number t o = 0 < number o.answer → o.table ≡ t
 
-done : (c : Done) (t u : List ℕ) → Untouched done_number t (done_if c t u)
-done c t u = done_if_lem (Untouched done_number t) c t u (λ q h. refl) (λ a h. absurd (omega arith))
+done : (c : Answer ⊤) (t u : List ℕ) → Untouched answer_number t (done_if c t u)
+done c t u = done_if_lem (Untouched answer_number t) c t u (λ q h. refl) (λ a h. absurd (omega arith))
 
-placed : (c : Done) (t : List ℕ) (n : ℕ) (u : List ℕ) → Untouched placed_number t (placed_if c t n u)
-placed c t n u = placed_if_lem (Untouched placed_number t) c t n u (λ q h. refl) (λ a h. absurd (omega arith))
+placed : (c : Answer ⊤) (t : List ℕ) (n : ℕ) (u : List ℕ) → Untouched answer_number t (placed_if c t n u)
+placed c t n u = placed_if_lem (Untouched answer_number t) c t n u (λ q h. refl) (λ a h. absurd (omega arith))
 
 -- A refused call leaves every word.
 pub refused_leaves : (t : List ℕ) (c : Call) → 0 < answer_of t c → after t c ≡ t
@@ -170,16 +170,16 @@ has_process t = (
 )
 
 -- `build` accepts exactly the tables that are well formed for a run.
-pub build_exactly : (t : List ℕ) → (build_of t ≡ Done.Accepted) ↔ (well_formed t false ≡ true)
+pub build_exactly : (t : List ℕ) → (build_of t ≡ admitted) ↔ (well_formed t false ≡ true)
 unfolding build_of unless
 build_exactly t = (onto, back)
   where
-    onto : build_of t ≡ Done.Accepted → well_formed t false ≡ true
+    onto : build_of t ≡ admitted → well_formed t false ≡ true
     onto e =
         let a = unless_on _ _ _ e in
         (has_process t).1 (a.0, ltb-true _ _ (unless_on _ _ _ a.1).0)
 
-    back : well_formed t false ≡ true → build_of t ≡ Done.Accepted
+    back : well_formed t false ≡ true → build_of t ≡ admitted
     back h =
         let k = (has_process t).0 h in
         rw (k.0, lt-ltb 0 (process_count t) k.1)
@@ -209,13 +209,13 @@ chain_stays_runnable t [] fit h = h
 chain_stays_runnable t (c ∷ calls) fit h = chain_stays_runnable (after t c) calls fit.1 (stays_runnable t c fit.0 h)
 
 -- ---- 32
-known_done : (c : Done) (t u : List ℕ) → Known c → done_number (done_if c t u).answer ≢ 32
-known_done Done.Accepted t u h = h
-known_done (Done.Refused r) t u h = h
+known_done : (c : Answer ⊤) (t u : List ℕ) → Known c → answer_number (done_if c t u).answer ≢ 32
+known_done (Ok _) t u h = h
+known_done (Err r) t u h = h
 
-pub known_placed : (c : Done) (t : List ℕ) (n : ℕ) (u : List ℕ) → Known c → placed_number (placed_if c t n u).answer ≢ 32
-known_placed Done.Accepted t n u h = h
-known_placed (Done.Refused r) t n u h = h
+pub known_placed : (c : Answer ⊤) (t : List ℕ) (n : ℕ) (u : List ℕ) → Known c → answer_number (placed_if c t n u).answer ≢ 32
+known_placed (Ok _) t n u h = h
+known_placed (Err r) t n u h = h
 
 -- On a well-formed table no call answers 32.
 pub call_known : (t : List ℕ) (c : Call) → well_formed t true ≡ true → answer_of t c ≢ 32
@@ -233,18 +233,18 @@ call_known t (new_initial_location l) h = known_placed (initial_check t l) t _ _
 call_known t (add_transition pre a post guarded ws l) h =
     known_done (transition_check t pre a post guarded ws l) t _ (transition_known t h pre a post guarded ws l)
 
-pub build_known : (t : List ℕ) → well_formed t true ≡ true → done_number (build_of t) ≢ 32
+pub build_known : (t : List ℕ) → well_formed t true ≡ true → answer_number (build_of t) ≢ 32
 unfolding build_of unless
-build_known t h = rw h (rung Known (ltb 0 (process_count t)) (Done.Refused (refusal 29)) Done.Accepted (omega arith) (λ e. omega arith))
+build_known t h = rw h (rung Known (ltb 0 (process_count t)) (Err (refusal 29)) admitted (omega arith) (λ e. omega arith))
 
-pub kind_known_lem : (t : List ℕ) (v : ℕ) → well_formed t true ≡ true → var_type_number (var_type_of t v) ≢ 32
+pub kind_known_lem : (t : List ℕ) (v : ℕ) → well_formed t true ≡ true → answer_number (var_type_of t v) ≢ 32
 unfolding var_type_of unless
 kind_known_lem t v h =
     rw h
-    (rung (λ (k : VarType). var_type_number k ≢ 32) (ltb v (variable_count t)) (VarType.Refused (refusal 4)) _ (omega arith)
+    (rung (λ (k : Answer «Type»). answer_number k ≢ 32) (ltb v (variable_count t)) (Err (refusal 4)) _ (omega arith)
     (λ e. by (eqb (kind_at t v) 0)))
   where
-    by : (b : Bool) → var_type_number (cond b (VarType.Known Kind.Boolean) (VarType.Known Kind.Integer)) ≢ 32
+    by : (b : Bool) → answer_number (cond b (Ok Kind.Boolean) (Ok Kind.Integer)) ≢ 32
     by true = omega arith
     by false = omega arith
 
@@ -264,12 +264,12 @@ module _ (t : List ℕ) (words : Words t) (calls : List Call) (fit : AllFit call
   pub chain_known : (c : Call) → answer_of built c ≢ 32
   chain_known c = call_known built c chain_formed
 
-  pub chain_build_known : done_number (build_of built) ≢ 32
+  pub chain_build_known : answer_number (build_of built) ≢ 32
   chain_build_known = build_known built chain_formed
 
-  pub chain_kind_known : (v : ℕ) → var_type_number (var_type_of built v) ≢ 32
+  pub chain_kind_known : (v : ℕ) → answer_number (var_type_of built v) ≢ 32
   chain_kind_known v = kind_known_lem built v chain_formed
 
   -- What `build` accepts, and every chain of calls behind it, is well formed for a run.
-  pub chain_runnable : (more : List Call) → AllFit more → build_of built ≡ Done.Accepted → well_formed (after_all built more) false ≡ true
+  pub chain_runnable : (more : List Call) → AllFit more → build_of built ≡ admitted → well_formed (after_all built more) false ≡ true
   chain_runnable more also e = chain_stays_runnable built more also ((build_exactly built).0 e)

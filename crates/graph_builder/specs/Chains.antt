@@ -4,7 +4,7 @@ use Rattle.grammar.specs.Slots.{FitVal}
 use Rattle.grammar.specs.declared.values.Val.{Val}
 use Rattle.graph_tables.specs.declared.handed.Limits.{Limits}
 use Rattle.graph_tables.specs.declared.handed.Vars.{Vars}
-use Rattle.graph_tables.specs.Answers.{done_number, placed_number}
+use Rattle.graph_tables.specs.Answers.{answer_number}
 use Rattle.graph_edits.specs.Edits.{LimitsFit}
 use Rattle.graph_builder.specs.Building.{new_var_of, new_clock_of, new_action_of, new_process_of, add_reset_of, add_effect_of, new_send_of}
 use Rattle.graph_builder.specs.Building.{new_receive_of, new_timed_location_of, new_initial_of, add_transition_of}
@@ -39,17 +39,17 @@ after t (add_transition pre a post guarded ws l) = (add_transition_of t pre a po
 
 -- the number of its answer: 0 for ok, else the refusal's
 abbrev pub answer_of : List ℕ → Call → ℕ
-answer_of t (new_var v) = placed_number (new_var_of t v).answer
-answer_of t new_clock = placed_number (new_clock_of t).answer
-answer_of t new_action = placed_number (new_action_of t).answer
-answer_of t (new_process l) = done_number (new_process_of t l).answer
-answer_of t (add_reset a clock) = done_number (add_reset_of t a clock).answer
-answer_of t (add_effect a v ws) = done_number (add_effect_of t a v ws).answer
-answer_of t (new_send m count) = placed_number (new_send_of t m count).answer
-answer_of t (new_receive v) = placed_number (new_receive_of t v).answer
-answer_of t (new_timed_location l) = placed_number (new_timed_location_of t l).answer
-answer_of t (new_initial_location l) = placed_number (new_initial_of t l).answer
-answer_of t (add_transition pre a post guarded ws l) = done_number (add_transition_of t pre a post guarded ws l).answer
+answer_of t (new_var v) = answer_number (new_var_of t v).answer
+answer_of t new_clock = answer_number (new_clock_of t).answer
+answer_of t new_action = answer_number (new_action_of t).answer
+answer_of t (new_process l) = answer_number (new_process_of t l).answer
+answer_of t (add_reset a clock) = answer_number (add_reset_of t a clock).answer
+answer_of t (add_effect a v ws) = answer_number (add_effect_of t a v ws).answer
+answer_of t (new_send m count) = answer_number (new_send_of t m count).answer
+answer_of t (new_receive v) = answer_number (new_receive_of t v).answer
+answer_of t (new_timed_location l) = answer_number (new_timed_location_of t l).answer
+answer_of t (new_initial_location l) = answer_number (new_initial_of t l).answer
+answer_of t (add_transition pre a post guarded ws l) = answer_number (add_transition_of t pre a post guarded ws l).answer
 
 -- handed integers and times have 32 bits
 abbrev pub Fits : Call → Type 0

@@ -1,4 +1,5 @@
-// Building one graph on a lent table. A refusal leaves every word as it was.
+// Building one graph on a lent table. A refusal leaves every word as it was. Calls that place a part are a check, its number, a write and
+// the answer: a generic one would take the first three as closures, and each call would be as long as it is.
 #![tactic(auto)]
 
 ghost use Rattle.std.specs.Prelude.{◌≡◌};
@@ -13,7 +14,7 @@ use grammar::bits;
 use grammar::values::{Type, Val};
 use graph_checks::checks;
 use graph_edits::inner::{actions, locations, transitions, variables};
-use graph_tables::answers::{Done, Placed, VarType};
+use graph_tables::answers::Answer;
 use graph_tables::handed::{Limits, Vars};
 use graph_tables::ids::{Action, Clock, Location, Var};
 use graph_tables::refusals::Refusal;
@@ -30,11 +31,12 @@ fn payload(v: Val) -> u64
 }
 
 // An empty graph: the counts alone are written.
-pub fn new(t: &mut [u64]) -> Done
+#[tactic(auto, unfolding(crate::specs::Building::empty_of, laws::specs::Ladder::unless))]
+pub fn new(t: &mut [u64]) -> Answer<()>
     ensures { (result ≡ (empty_of t.old).answer) × (t.new ≡ (empty_of t.old).table) }
 {
     if t.len() != sizes::WORDS {
-        return Done::Refused(Refusal::BadState);
+        return Err(Refusal::BadState);
     }
     t[layout::VARIABLES] = 0;
     t[layout::CLOCKS] = 0;
@@ -42,66 +44,61 @@ pub fn new(t: &mut [u64]) -> Done
     t[layout::ACTIONS] = 0;
     t[layout::PROCESSES] = 0;
     t[layout::TRANSITIONS] = 0;
-    Done::Accepted
+    Ok(())
 }
 
-pub fn new_var(t: &mut [u64], val: Val) -> Placed
+#[tactic(auto, unfolding(crate::specs::Building::new_var_of))]
+pub fn new_var(t: &mut [u64], val: Val) -> Answer<u32>
     ensures { (result ≡ (new_var_of t.old val).answer) × (t.new ≡ (new_var_of t.old val).table) }
 {
-    let check = checks::var_check(t);
-    if let Done::Refused(r) = check {
-        return Placed::Refused(r);
-    }
+    checks::var_check(t)?;
     let n = inner::variable_count(t);
     let kind = val.kind().word();
     let value = payload(val);
     variables::put_var(t, kind, value);
-    Placed::At(n as u32)
+    Ok(n as u32)
 }
 
-pub fn var_type(t: &[u64], var: Var) -> VarType
+#[tactic(auto, using(crate::proofs::BuildingLaws::words_of, crate::proofs::BuildingLaws::counted_of), unfolding(crate::specs::Building::var_type_of, laws::specs::Ladder::unless))]
+pub fn var_type(t: &[u64], var: Var) -> Answer<Type>
     ensures { result ≡ var_type_of t.now var.0 }
 {
     if !formed::well_formed(t, true) {
-        return VarType::Refused(Refusal::BadState);
+        return Err(Refusal::BadState);
     }
     let v = var.0 as usize;
     if inner::variable_count(t) <= v {
-        return VarType::Refused(Refusal::MissingVar);
+        return Err(Refusal::MissingVar);
     }
     if inner::kind_at(t, v) == 0 {
-        return VarType::Known(Type::Boolean);
+        return Ok(Type::Boolean);
     }
-    VarType::Known(Type::Integer)
+    Ok(Type::Integer)
 }
 
-pub fn new_clock(t: &mut [u64]) -> Placed
+#[tactic(auto, unfolding(crate::specs::Building::new_clock_of))]
+pub fn new_clock(t: &mut [u64]) -> Answer<u32>
     ensures { (result ≡ (new_clock_of t.old).answer) × (t.new ≡ (new_clock_of t.old).table) }
 {
-    let check = checks::clock_check(t);
-    if let Done::Refused(r) = check {
-        return Placed::Refused(r);
-    }
+    checks::clock_check(t)?;
     let n = inner::clock_count(t);
     variables::put_clock(t);
-    Placed::At(n as u32)
+    Ok(n as u32)
 }
 
 // A plain action, without effects and resets.
-pub fn new_action(t: &mut [u64]) -> Placed
+#[tactic(auto, unfolding(crate::specs::Building::new_action_of))]
+pub fn new_action(t: &mut [u64]) -> Answer<u32>
     ensures { (result ≡ (new_action_of t.old).answer) × (t.new ≡ (new_action_of t.old).table) }
 {
-    let check = checks::action_check(t);
-    if let Done::Refused(r) = check {
-        return Placed::Refused(r);
-    }
+    checks::action_check(t)?;
     let n = inner::action_count(t);
     actions::put_action(t, layout::PLAIN, 0);
-    Placed::At(n as u32)
+    Ok(n as u32)
 }
 
 // A location without invariants.
-pub fn new_location(t: &mut [u64]) -> Placed
+pub fn new_location(t: &mut [u64]) -> Answer<u32>
     ensures { (result ≡ (new_timed_location_of t.old no_limits).answer)
         × (t.new ≡ (new_timed_location_of t.old no_limits).table) }
 {
@@ -109,63 +106,59 @@ pub fn new_location(t: &mut [u64]) -> Placed
 }
 
 // A process that starts at a location. One location may hold several.
-pub fn new_process(t: &mut [u64], location: Location) -> Done
+#[tactic(auto, unfolding(crate::specs::Building::new_process_of))]
+pub fn new_process(t: &mut [u64], location: Location) -> Answer<()>
     ensures { (result ≡ (new_process_of t.old location.0).answer)
         × (t.new ≡ (new_process_of t.old location.0).table) }
 {
     let l = location.0;
-    let check = checks::process_check(t, l);
-    if let Done::Refused(r) = check {
-        return Done::Refused(r);
-    }
+    checks::process_check(t, l)?;
     locations::put_process(t, l as usize);
-    Done::Accepted
+    Ok(())
 }
 
 // Whether the graph can be run: it has a process.
-pub fn build(t: &[u64]) -> Done
+#[tactic(auto, using(crate::proofs::BuildingLaws::words_of), unfolding(crate::specs::Building::build_of, laws::specs::Ladder::unless))]
+pub fn build(t: &[u64]) -> Answer<()>
     ensures { result ≡ build_of t.now }
 {
     if !formed::well_formed(t, true) {
-        return Done::Refused(Refusal::BadState);
+        return Err(Refusal::BadState);
     }
     if inner::process_count(t) == 0 {
-        return Done::Refused(Refusal::NoProcess);
+        return Err(Refusal::NoProcess);
     }
-    Done::Accepted
+    Ok(())
 }
 
 // A clock among the resets of an action, in the order of their numbers.
-pub fn add_reset(t: &mut [u64], action: Action, clock: Clock) -> Done
+#[tactic(auto, unfolding(crate::specs::Building::add_reset_of))]
+pub fn add_reset(t: &mut [u64], action: Action, clock: Clock) -> Answer<()>
     ensures { (result ≡ (add_reset_of t.old action.0 clock.0).answer)
         × (t.new ≡ (add_reset_of t.old action.0 clock.0).table) }
 {
     let a = action.0;
     let c = clock.0;
-    let check = checks::reset_check(t, a, c);
-    if let Done::Refused(r) = check {
-        return Done::Refused(r);
-    }
+    checks::reset_check(t, a, c)?;
     actions::put_reset(t, a as usize, c as usize);
-    Done::Accepted
+    Ok(())
 }
 
 // An effect of an action, behind the others.
-pub fn add_effect(t: &mut [u64], action: Action, var: Var, effect: &[u64]) -> Done
+#[tactic(auto, unfolding(crate::specs::Building::add_effect_of))]
+pub fn add_effect(t: &mut [u64], action: Action, var: Var, effect: &[u64]) -> Answer<()>
     ensures { (result ≡ (add_effect_of t.old action.0 var.0 effect.now).answer)
         × (t.new ≡ (add_effect_of t.old action.0 var.0 effect.now).table) }
 {
     let a = action.0;
     let v = var.0;
-    let check = checks::effect_check(t, a, v, effect);
-    if let Done::Refused(r) = check {
-        return Done::Refused(r);
-    }
+    checks::effect_check(t, a, v, effect)?;
     actions::put_effect(t, a as usize, v as usize, effect);
-    Done::Accepted
+    Ok(())
 }
 
 // A send of the first count of four expressions.
+#[tactic(auto, unfolding(crate::specs::Building::new_send_of))]
 pub fn new_send<'a>(
     t: &mut [u64],
     count: usize,
@@ -173,62 +166,53 @@ pub fn new_send<'a>(
     x: &'a [u64],
     y: &'a [u64],
     z: &'a [u64],
-) -> Placed
+) -> Answer<u32>
     ensures { (result ≡ (new_send_of t.old (chosen w.now x.now y.now z.now) count).answer)
         × (t.new
         ≡ (new_send_of t.old (chosen w.now x.now y.now z.now) count).table) }
 {
-    let check = checks::send_check(t, w, x, y, z, count);
-    if let Done::Refused(r) = check {
-        return Placed::Refused(r);
-    }
+    checks::send_check(t, w, x, y, z, count)?;
     let n = inner::action_count(t);
     actions::put_send(t, w, x, y, z, count);
-    Placed::At(n as u32)
+    Ok(n as u32)
 }
 
 // A receive into these variables. One may stand twice.
-pub fn new_receive(t: &mut [u64], vars: Vars) -> Placed
+#[tactic(auto, unfolding(crate::specs::Building::new_receive_of))]
+pub fn new_receive(t: &mut [u64], vars: Vars) -> Answer<u32>
     ensures { (result ≡ (new_receive_of t.old vars).answer) × (t.new ≡ (new_receive_of t.old vars).table) }
 {
-    let check = checks::receive_check(t, vars);
-    if let Done::Refused(r) = check {
-        return Placed::Refused(r);
-    }
+    checks::receive_check(t, vars)?;
     let n = inner::action_count(t);
     actions::put_receive(t, vars);
-    Placed::At(n as u32)
+    Ok(n as u32)
 }
 
 // A location with these invariants.
-pub fn new_timed_location(t: &mut [u64], invariants: Limits) -> Placed
+#[tactic(auto, unfolding(crate::specs::Building::new_timed_location_of))]
+pub fn new_timed_location(t: &mut [u64], invariants: Limits) -> Answer<u32>
     ensures { (result ≡ (new_timed_location_of t.old invariants).answer)
         × (t.new ≡ (new_timed_location_of t.old invariants).table) }
 {
-    let check = checks::location_check(t, invariants);
-    if let Done::Refused(r) = check {
-        return Placed::Refused(r);
-    }
+    checks::location_check(t, invariants)?;
     let n = inner::location_count(t);
     locations::put_location(t, invariants);
-    Placed::At(n as u32)
+    Ok(n as u32)
 }
 
 // A location with these invariants, and a process that starts there.
-pub fn new_initial_timed_location(t: &mut [u64], invariants: Limits) -> Placed
+#[tactic(auto, unfolding(crate::specs::Building::new_initial_of))]
+pub fn new_initial_timed_location(t: &mut [u64], invariants: Limits) -> Answer<u32>
     ensures { (result ≡ (new_initial_of t.old invariants).answer) × (t.new ≡ (new_initial_of t.old invariants).table) }
 {
-    let check = checks::initial_check(t, invariants);
-    if let Done::Refused(r) = check {
-        return Placed::Refused(r);
-    }
+    checks::initial_check(t, invariants)?;
     let n = inner::location_count(t);
     locations::put_process(t, n);
     locations::put_location(t, invariants);
-    Placed::At(n as u32)
+    Ok(n as u32)
 }
 
-pub fn new_initial_location(t: &mut [u64]) -> Placed
+pub fn new_initial_location(t: &mut [u64]) -> Answer<u32>
     ensures { (result ≡ (new_initial_of t.old no_limits).answer) × (t.new ≡ (new_initial_of t.old no_limits).table) }
 {
     new_initial_timed_location(t, Limits::none())
@@ -236,6 +220,7 @@ pub fn new_initial_location(t: &mut [u64]) -> Placed
 
 // A transition from pre by an action to post, if its guard is true, within its limits. Without a guard its items are not
 // looked at.
+#[tactic(auto, unfolding(crate::specs::Building::add_transition_of))]
 pub fn add_timed_transition(
     t: &mut [u64],
     pre: Location,
@@ -244,24 +229,21 @@ pub fn add_timed_transition(
     guarded: bool,
     guard: &[u64],
     limits: Limits,
-) -> Done
+) -> Answer<()>
     ensures { (result ≡ (add_transition_of t.old pre.0 action.0 post.0 guarded guard.now limits).answer)
         × (t.new ≡ (add_transition_of t.old pre.0 action.0 post.0 guarded guard.now limits).table) }
 {
     let l = pre.0;
     let a = action.0;
     let m = post.0;
-    let check = checks::transition_check(t, l, a, m, guarded, guard, limits);
-    if let Done::Refused(r) = check {
-        return Done::Refused(r);
-    }
+    checks::transition_check(t, l, a, m, guarded, guard, limits)?;
     let key = inner::key_with(l as u64, a, m as u64);
     if guarded {
         transitions::put_transition(t, key, guard, limits);
-        return Done::Accepted;
+        return Ok(());
     }
     transitions::put_transition(t, key, &guard[0..0], limits);
-    Done::Accepted
+    Ok(())
 }
 
 pub fn add_transition(
@@ -271,7 +253,7 @@ pub fn add_transition(
     post: Location,
     guarded: bool,
     guard: &[u64],
-) -> Done
+) -> Answer<()>
     ensures { (result ≡ (add_transition_of t.old pre.0 action.0 post.0 guarded guard.now no_limits).answer)
         × (t.new ≡ (add_transition_of t.old pre.0 action.0 post.0 guarded guard.now no_limits).table) }
 {
@@ -286,7 +268,7 @@ pub fn add_autonomous_timed_transition(
     guarded: bool,
     guard: &[u64],
     limits: Limits,
-) -> Done
+) -> Answer<()>
     ensures { (result ≡ (add_transition_of t.old pre.0 epsilon post.0 guarded guard.now limits).answer)
         × (t.new ≡ (add_transition_of t.old pre.0 epsilon post.0 guarded guard.now limits).table) }
 {
@@ -299,7 +281,7 @@ pub fn add_autonomous_transition(
     post: Location,
     guarded: bool,
     guard: &[u64],
-) -> Done
+) -> Answer<()>
     ensures { (result ≡ (add_transition_of t.old pre.0 epsilon post.0 guarded guard.now no_limits).answer)
         × (t.new ≡ (add_transition_of t.old pre.0 epsilon post.0 guarded guard.now no_limits).table) }
 {

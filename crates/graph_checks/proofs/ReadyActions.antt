@@ -1,4 +1,5 @@
 -- What accepted checks of actions say: of resets, effects and messages.
+use Rattle.graph_tables.specs.Answers.{admitted}
 use Prim.Native.Nat.{ℕ, ◌+◌, ◌<◌, ◌≤◌}
 use mathlib.Core.Path.{◌≡◌}
 use mathlib.Core.Bool.{true}
@@ -17,7 +18,6 @@ use Rattle.graph_tables.specs.Words.{variable_count, action_count, kind_at, kind
 use Rattle.graph_tables.specs.Formed.{well_formed, effect_draws}
 use Rattle.graph_tables.specs.Sound.{Sound}
 use Rattle.graph_tables.proofs.SoundLaws.{sound}
-use Rattle.graph_tables.specs.declared.answers.Done.TheVariants.{Accepted}
 use Rattle.graph_checks.specs.Checks.{each_below, plain_check, room_for_reset, reset_check, room_for_effect, assigned_check}
 use Rattle.graph_checks.specs.Checks.{action_effect_check, known_effect_check, effect_check, typed_check, expression_check, shallow}
 use Rattle.graph_checks.specs.Checks.{message_draws, send_room, send_check, var_known, receive_check}
@@ -25,7 +25,7 @@ use Rattle.graph_checks.proofs.CheckLaws.{unless_on, then_both, each_at}
 use Rattle.graph_checks.proofs.TypedLaws.{short, as_typed, is_typed_lem}
 
 -- ---- actions that take resets and effects
-pub plain_ready : (t : List ℕ) (a : ℕ) → Sound t → plain_check t a ≡ Accepted → (a < action_count t) × (action_kind t a ≡ plain_kind)
+pub plain_ready : (t : List ℕ) (a : ℕ) → Sound t → plain_check t a ≡ admitted → (a < action_count t) × (action_kind t a ≡ plain_kind)
 unfolding plain_check
 plain_ready t a s e =
     let known = unless_on _ _ _ e in
@@ -43,7 +43,7 @@ pub record ResetReady (t : List ℕ) (a clock : ℕ) : Type 0 where
   pub room : reset_count t a < reset_room
   pub clock_known_lem : clock < clock_count t
 
-pub reset_ready : (t : List ℕ) (a clock : ℕ) → reset_check t a clock ≡ Accepted → ResetReady t a clock
+pub reset_ready : (t : List ℕ) (a clock : ℕ) → reset_check t a clock ≡ admitted → ResetReady t a clock
 unfolding reset_check room_for_reset
 reset_ready t a clock h =
     let x = unless_on _ _ _ h in
@@ -58,7 +58,7 @@ reset_ready t a clock h =
     }
 
 -- ---- effects
-pub assigned_short : (t : List ℕ) (v : ℕ) (kinds ws : List ℕ) → assigned_check t v (type_of kinds ws) ≡ Accepted → length ws ≤ item_room
+pub assigned_short : (t : List ℕ) (v : ℕ) (kinds ws : List ℕ) → assigned_check t v (type_of kinds ws) ≡ admitted → length ws ≤ item_room
 unfolding assigned_check
 assigned_short t v kinds ws e = short kinds ws (unless_on _ _ _ e).0
 
@@ -72,7 +72,7 @@ pub record EffectReady (t : List ℕ) (a v : ℕ) (ws : List ℕ) : Type 0 where
   pub typed : typed_as (kind_at t v) (type_of (kinds_of t) ws) ≡ true
   pub draws : sum_below (effect_count t a) (effect_draws t a) + draws_of ws ≤ draw_room
 
-pub effect_ready : (t : List ℕ) (a v : ℕ) (ws : List ℕ) → effect_check t a v ws ≡ Accepted → EffectReady t a v ws
+pub effect_ready : (t : List ℕ) (a v : ℕ) (ws : List ℕ) → effect_check t a v ws ≡ admitted → EffectReady t a v ws
 unfolding effect_check known_effect_check action_effect_check assigned_check room_for_effect
 effect_ready t a v ws e =
     let formed = unless_on _ _ _ e in
@@ -96,7 +96,7 @@ effect_ready t a v ws e =
     }
 
 -- ---- sends
-pub message_short : (kinds : List ℕ) (m : ℕ → List ℕ) (n : ℕ) → each_below n (expression_check kinds m) ≡ Accepted → (i : ℕ) → i < n
+pub message_short : (kinds : List ℕ) (m : ℕ → List ℕ) (n : ℕ) → each_below n (expression_check kinds m) ≡ admitted → (i : ℕ) → i < n
     → length (m i) ≤ item_room
 unfolding expression_check typed_check
 message_short kinds m n h i l = short kinds (m i) (unless_on _ _ _ (each_at (expression_check kinds m) n i h l)).0
@@ -108,7 +108,7 @@ pub record SendReady (t : List ℕ) (m : ℕ → List ℕ) (count : ℕ) : Type 
   pub expression : (i : ℕ) → i < count → (length (m i) ≤ item_room) × (is_typed (type_of (kinds_of t) (m i)) ≡ true)
   pub draws : sum_below count (λ (i : ℕ). draws_of (m i)) ≤ draw_room
 
-pub send_ready : (t : List ℕ) (m : ℕ → List ℕ) (count : ℕ) → send_check t m count ≡ Accepted → SendReady t m count
+pub send_ready : (t : List ℕ) (m : ℕ → List ℕ) (count : ℕ) → send_check t m count ≡ admitted → SendReady t m count
 unfolding send_check expression_check typed_check send_room shallow message_draws
 send_ready t m count e =
     let formed = unless_on _ _ _ e in
@@ -136,7 +136,7 @@ pub record ReceiveReady (t : List ℕ) (v : Vars) : Type 0 where
   pub few : v.count ≤ message_room
   pub var : (i : ℕ) → i < v.count → handed_var v i < variable_count t
 
-pub receive_ready : (t : List ℕ) (v : Vars) → receive_check t v ≡ Accepted → ReceiveReady t v
+pub receive_ready : (t : List ℕ) (v : Vars) → receive_check t v ≡ admitted → ReceiveReady t v
 unfolding receive_check var_known
 receive_ready t v e =
     let formed = unless_on _ _ _ e in

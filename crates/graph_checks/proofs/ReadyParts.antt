@@ -1,4 +1,6 @@
 -- What accepted checks of parts, limits, locations and transitions say.
+use Rattle.graph_tables.specs.Answers.{Answer, admitted}
+use Rattle.std.specs.Prelude.{⊤}
 use Prim.Native.Nat.{ℕ, ◌≤◌, ◌<◌}
 use mathlib.Core.Path.{◌≡◌}
 use mathlib.Core.Bool.{Bool, true, false}
@@ -14,8 +16,6 @@ use Rattle.graph_tables.specs.Formed.{well_formed, action_known}
 use Rattle.laws.proofs.Tests.{never}
 use Rattle.laws.proofs.BelowLaws.{all_at}
 use Rattle.graph_edits.specs.Edits.{ClocksKnown, StartInside}
-use Rattle.graph_tables.specs.declared.answers.Done.{Done}
-use Rattle.graph_tables.specs.declared.answers.Done.TheVariants.{Accepted}
 use Rattle.graph_checks.specs.Checks.{on_table, room_for, var_check, clock_check, action_check, zero_at, place_check, process_check}
 use Rattle.graph_checks.specs.Checks.{clock_known, clocks_known, starts_inside, all_start_inside, limits_check, location_check, start_check}
 use Rattle.graph_checks.specs.Checks.{initial_check, ends_check, guard_check, if_guarded, guard_room, conditions_check, transition_check}
@@ -23,20 +23,20 @@ use Rattle.graph_checks.proofs.CheckLaws.{unless_on, then_both}
 use Rattle.graph_checks.proofs.TypedLaws.{as_typed, short}
 
 -- a part more, and nothing handed
-pub room_ready : (t : List ℕ) (n size : ℕ) → on_table t (room_for n size Accepted) ≡ Accepted → (well_formed t true ≡ true) × (n < size)
+pub room_ready : (t : List ℕ) (n size : ℕ) → on_table t (room_for n size admitted) ≡ admitted → (well_formed t true ≡ true) × (n < size)
 room_ready t n size h =
     let a = unless_on _ _ _ h in
     (a.0, ltb-true _ _ (unless_on _ _ _ a.1).0)
 
-pub var_ready : (t : List ℕ) → var_check t ≡ Accepted → (well_formed t true ≡ true) × (variable_count t < variable_room)
+pub var_ready : (t : List ℕ) → var_check t ≡ admitted → (well_formed t true ≡ true) × (variable_count t < variable_room)
 unfolding var_check
 var_ready t = room_ready t _ _
 
-pub clock_ready : (t : List ℕ) → clock_check t ≡ Accepted → (well_formed t true ≡ true) × (clock_count t < clock_room)
+pub clock_ready : (t : List ℕ) → clock_check t ≡ admitted → (well_formed t true ≡ true) × (clock_count t < clock_room)
 unfolding clock_check
 clock_ready t = room_ready t _ _
 
-pub action_ready : (t : List ℕ) → action_check t ≡ Accepted → (well_formed t true ≡ true) × (action_count t < action_room)
+pub action_ready : (t : List ℕ) → action_check t ≡ admitted → (well_formed t true ≡ true) × (action_count t < action_room)
 unfolding action_check
 action_ready t = room_ready t _ _
 
@@ -47,7 +47,7 @@ pub record ProcessReady (t : List ℕ) (l : ℕ) : Type 0 where
   pub inside : zero_at t l ≡ true
   pub room : process_count t < process_room
 
-pub process_ready_lem : (t : List ℕ) (l : ℕ) → process_check t l ≡ Accepted → ProcessReady t l
+pub process_ready_lem : (t : List ℕ) (l : ℕ) → process_check t l ≡ admitted → ProcessReady t l
 unfolding process_check place_check
 process_ready_lem t l h =
     let a = unless_on _ _ _ h in
@@ -56,7 +56,7 @@ process_ready_lem t l h =
     record { formed = a.0; place = ltb-true _ _ b.0; inside = c.0; room = ltb-true _ _ (unless_on _ _ _ c.1).0 }
 
 -- handed limits
-pub limits_ready : (t : List ℕ) (l : Limits) → limits_check t l ≡ Accepted → (l.count ≤ limit_room) × ClocksKnown t l
+pub limits_ready : (t : List ℕ) (l : Limits) → limits_check t l ≡ admitted → (l.count ≤ limit_room) × ClocksKnown t l
 unfolding limits_check clocks_known clock_known
 limits_ready t l h =
     let a = unless_on _ _ _ h in
@@ -68,7 +68,7 @@ pub record LocationReady (t : List ℕ) (l : Limits) : Type 0 where
   pub limits : (l.count ≤ limit_room) × ClocksKnown t l
   pub room : location_count t < location_room
 
-pub location_ready : (t : List ℕ) (l : Limits) → location_check t l ≡ Accepted → LocationReady t l
+pub location_ready : (t : List ℕ) (l : Limits) → location_check t l ≡ admitted → LocationReady t l
 unfolding location_check
 location_ready t l h =
     let a = unless_on _ _ _ h in
@@ -81,7 +81,7 @@ pub record InitialReady (t : List ℕ) (l : Limits) : Type 0 where
   pub inside : StartInside l
   pub room : process_count t < process_room
 
-pub initial_ready : (t : List ℕ) (l : Limits) → initial_check t l ≡ Accepted → InitialReady t l
+pub initial_ready : (t : List ℕ) (l : Limits) → initial_check t l ≡ admitted → InitialReady t l
 unfolding initial_check start_check all_start_inside starts_inside
 initial_ready t l h =
     let a = unless_on _ _ _ h in
@@ -100,7 +100,7 @@ pub record GuardReady (t ws : List ℕ) : Type 0 where
   pub typed : typed_as 0 (type_of (kinds_of t) ws) ≡ true
   pub no_draws : draws_of ws ≡ 0
 
-pub guard_ready : (t ws : List ℕ) → guard_check t ws ≡ Accepted → GuardReady t ws
+pub guard_ready : (t ws : List ℕ) → guard_check t ws ≡ admitted → GuardReady t ws
 unfolding guard_check
 guard_ready t ws h =
     let x = unless_on _ _ _ h in
@@ -114,7 +114,7 @@ guard_ready t ws h =
     }
 
 -- a guard that is there was checked
-guarded_check : (guarded : Bool) (check : Done) → guarded ≡ true → if_guarded guarded check ≡ Accepted → check ≡ Accepted
+guarded_check : (guarded : Bool) (check : Answer ⊤) → guarded ≡ true → if_guarded guarded check ≡ admitted → check ≡ admitted
 guarded_check true check e h = h
 guarded_check false check e h = never e
 
@@ -129,7 +129,7 @@ pub record TransitionReady (t : List ℕ) (pre a post : ℕ) (guarded : Bool) (w
   pub room : transition_count t < transition_room
 
 pub transition_ready : (t : List ℕ) (pre a post : ℕ) (guarded : Bool) (ws : List ℕ) (l : Limits)
-    → transition_check t pre a post guarded ws l ≡ Accepted → TransitionReady t pre a post guarded ws l
+    → transition_check t pre a post guarded ws l ≡ admitted → TransitionReady t pre a post guarded ws l
 unfolding transition_check ends_check conditions_check guard_room
 transition_ready t pre a post guarded ws l h =
     let x = unless_on _ _ _ h in

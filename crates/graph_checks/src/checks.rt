@@ -1,4 +1,7 @@
 // What each building call asks, in the order of its refusals. Nothing is written here.
+// The table is not a type with an invariant here: callers lend any words, and a malformed table is refused (32).
+// The scans by index below that are not `all` hand on limits or four expressions: with closures a location costs up to 9 per cent more
+// instructions and a send up to 9, 26 where it sends nothing.
 ghost use Rattle.std.specs.Prelude.{◌≡◌, not, ℕ, ◌≤◌, ◌<◌, length};
 ghost use Rattle.laws.specs.Below.{all_below, sum_below};
 ghost use Rattle.grammar.specs.Draws.{draws_of};
@@ -6,7 +9,7 @@ ghost use Rattle.grammar.specs.Typing.{type_of, too_deep};
 ghost use Rattle.graph_tables.specs.Sizes.{limit_room, message_room, item_room, plain_kind};
 ghost use Rattle.graph_tables.specs.Words.{action_count, action_kind, kinds_of, Words, location_count};
 ghost use Rattle.graph_tables.specs.Sound.{Sound};
-ghost use Rattle.graph_tables.specs.declared.answers.Done.TheVariants.{Accepted};
+ghost use Rattle.graph_tables.specs.Answers.{admitted};
 ghost use Rattle.graph_edits.specs.Edits.{chosen};
 ghost use Rattle.graph_checks.specs.Checks.{room_for, each_below, var_check, clock_check, action_check, zero_at, place_check, process_check};
 ghost use Rattle.graph_checks.specs.Checks.{clock_known, clocks_known, starts_inside, all_start_inside, limits_check, location_check};
@@ -18,45 +21,49 @@ ghost use Rattle.graph_checks.specs.Checks.{ends_check, guard_check, if_guarded,
 use grammar::typing::Typed;
 use grammar::{draws, typing};
 use graph_edits::inner::actions;
-use graph_tables::answers::Done;
+use graph_tables::answers::Answer;
 use graph_tables::handed::{Limits, Vars};
 use graph_tables::ids::Action;
 use graph_tables::inner::tests;
 use graph_tables::refusals::Refusal;
 use graph_tables::{formed, inner, layout, sizes};
 
-fn room_for(n: usize, size: usize) -> Done
-    ensures { result ≡ room_for n size Accepted }
+#[tactic(auto, unfolding(laws::specs::Ladder::unless))]
+fn room_for(n: usize, size: usize) -> Answer<()>
+    ensures { result ≡ room_for n size admitted }
 {
     if size <= n {
-        return Done::Refused(Refusal::TableFull);
+        return Err(Refusal::TableFull);
     }
-    Done::Accepted
+    Ok(())
 }
 
-pub fn var_check(t: &[u64]) -> Done
+#[tactic(auto, using(graph_tables::proofs::SoundLaws::sound), unfolding(crate::specs::Checks::var_check, laws::specs::Ladder::unless))]
+pub fn var_check(t: &[u64]) -> Answer<()>
     ensures { result ≡ var_check t.now }
 {
     if !formed::well_formed(t, true) {
-        return Done::Refused(Refusal::BadState);
+        return Err(Refusal::BadState);
     }
     room_for(inner::variable_count(t), sizes::VARIABLES)
 }
 
-pub fn clock_check(t: &[u64]) -> Done
+#[tactic(auto, using(graph_tables::proofs::SoundLaws::sound), unfolding(crate::specs::Checks::clock_check, laws::specs::Ladder::unless))]
+pub fn clock_check(t: &[u64]) -> Answer<()>
     ensures { result ≡ clock_check t.now }
 {
     if !formed::well_formed(t, true) {
-        return Done::Refused(Refusal::BadState);
+        return Err(Refusal::BadState);
     }
     room_for(inner::clock_count(t), sizes::CLOCKS)
 }
 
-pub fn action_check(t: &[u64]) -> Done
+#[tactic(auto, using(graph_tables::proofs::SoundLaws::sound), unfolding(crate::specs::Checks::action_check, laws::specs::Ladder::unless))]
+pub fn action_check(t: &[u64]) -> Answer<()>
     ensures { result ≡ action_check t.now }
 {
     if !formed::well_formed(t, true) {
-        return Done::Refused(Refusal::BadState);
+        return Err(Refusal::BadState);
     }
     room_for(inner::action_count(t), sizes::ACTIONS)
 }
@@ -70,28 +77,31 @@ fn zero_at(t: &[u64], l: usize) -> bool
 }
 
 // A process at a location that is there.
-fn place_check(t: &[u64], l: usize) -> Done
+#[tactic(auto, unfolding(crate::specs::Checks::place_check, laws::specs::Ladder::unless))]
+fn place_check(t: &[u64], l: usize) -> Answer<()>
     requires { Sound t.now × (l < location_count t.now) }
     ensures { result ≡ place_check t.now l }
 {
     if !zero_at(t, l) {
-        return Done::Refused(Refusal::Invariant);
+        return Err(Refusal::Invariant);
     }
     room_for(inner::process_count(t), sizes::PROCESSES)
 }
 
-pub fn process_check(t: &[u64], location: u32) -> Done
+#[tactic(auto, using(graph_tables::proofs::SoundLaws::sound), unfolding(crate::specs::Checks::process_check, laws::specs::Ladder::unless))]
+pub fn process_check(t: &[u64], location: u32) -> Answer<()>
     ensures { result ≡ process_check t.now location }
 {
     if !formed::well_formed(t, true) {
-        return Done::Refused(Refusal::BadState);
+        return Err(Refusal::BadState);
     }
     if inner::location_count(t) <= location as usize {
-        return Done::Refused(Refusal::MissingLocation);
+        return Err(Refusal::MissingLocation);
     }
     place_check(t, location as usize)
 }
 
+#[tactic(auto, unfolding(crate::specs::Checks::clock_known))]
 fn clock_known(t: &[u64], handed: Limits, i: usize) -> bool
     requires { Words t.now × (i < limit_room) }
     ensures { result ≡ clock_known t.now handed i }
@@ -113,6 +123,7 @@ fn clocks_known(t: &[u64], handed: Limits) -> bool
     true
 }
 
+#[tactic(auto, unfolding(crate::specs::Checks::starts_inside))]
 fn starts_inside(handed: Limits, i: usize) -> bool
     requires { i < limit_room }
     ensures { result ≡ starts_inside handed i }
@@ -134,197 +145,182 @@ fn all_start_inside(handed: Limits) -> bool
     true
 }
 
-fn limits_check(t: &[u64], handed: Limits) -> Done
+#[tactic(auto, unfolding(crate::specs::Checks::limits_check, laws::specs::Ladder::unless))]
+fn limits_check(t: &[u64], handed: Limits) -> Answer<()>
     requires { Sound t.now }
     ensures { result ≡ limits_check t.now handed }
 {
     if sizes::LIMITS < handed.count {
-        return Done::Refused(Refusal::TableFull);
+        return Err(Refusal::TableFull);
     }
     if !clocks_known(t, handed) {
-        return Done::Refused(Refusal::MissingClock);
+        return Err(Refusal::MissingClock);
     }
-    Done::Accepted
+    Ok(())
 }
 
-pub fn location_check(t: &[u64], handed: Limits) -> Done
+#[tactic(auto, using(graph_tables::proofs::SoundLaws::sound), unfolding(crate::specs::Checks::location_check, laws::specs::Ladder::unless))]
+pub fn location_check(t: &[u64], handed: Limits) -> Answer<()>
     ensures { result ≡ location_check t.now handed }
 {
     if !formed::well_formed(t, true) {
-        return Done::Refused(Refusal::BadState);
+        return Err(Refusal::BadState);
     }
-    let limits = limits_check(t, handed);
-    if let Done::Refused(r) = limits {
-        return Done::Refused(r);
-    }
-    if sizes::LOCATIONS <= inner::location_count(t) {
-        return Done::Refused(Refusal::TableFull);
-    }
-    Done::Accepted
+    limits_check(t, handed)?;
+    room_for(inner::location_count(t), sizes::LOCATIONS)
 }
 
 // A process at a new location.
-fn start_check(t: &[u64], handed: Limits) -> Done
+#[tactic(auto, unfolding(crate::specs::Checks::start_check, laws::specs::Ladder::unless))]
+fn start_check(t: &[u64], handed: Limits) -> Answer<()>
     requires { Sound t.now × (handed.count ≤ limit_room) }
     ensures { result ≡ start_check t.now handed }
 {
     if !all_start_inside(handed) {
-        return Done::Refused(Refusal::Invariant);
+        return Err(Refusal::Invariant);
     }
-    if sizes::LOCATIONS <= inner::location_count(t) {
-        return Done::Refused(Refusal::TableFull);
-    }
-    if sizes::PROCESSES <= inner::process_count(t) {
-        return Done::Refused(Refusal::TableFull);
-    }
-    Done::Accepted
+    room_for(inner::location_count(t), sizes::LOCATIONS)?;
+    room_for(inner::process_count(t), sizes::PROCESSES)
 }
 
-pub fn initial_check(t: &[u64], handed: Limits) -> Done
+#[tactic(auto, using(graph_tables::proofs::SoundLaws::sound, crate::proofs::ReadyParts::limits_ready), unfolding(crate::specs::Checks::initial_check, laws::specs::Ladder::unless))]
+pub fn initial_check(t: &[u64], handed: Limits) -> Answer<()>
     ensures { result ≡ initial_check t.now handed }
 {
     if !formed::well_formed(t, true) {
-        return Done::Refused(Refusal::BadState);
+        return Err(Refusal::BadState);
     }
-    let limits = limits_check(t, handed);
-    if let Done::Refused(r) = limits {
-        return Done::Refused(r);
-    }
+    limits_check(t, handed)?;
     start_check(t, handed)
 }
 
 // An action that takes resets and effects.
-fn plain_check(t: &[u64], a: usize) -> Done
+#[tactic(auto, unfolding(crate::specs::Checks::plain_check, laws::specs::Ladder::unless))]
+fn plain_check(t: &[u64], a: usize) -> Answer<()>
     requires { Sound t.now }
     ensures { result ≡ plain_check t.now a }
 {
     if inner::action_count(t) <= a {
-        return Done::Refused(Refusal::MissingAction);
+        return Err(Refusal::MissingAction);
     }
     let kind = inner::action_kind(t, a);
     if kind == layout::SEND {
-        return Done::Refused(Refusal::EffectOnSend);
+        return Err(Refusal::EffectOnSend);
     }
     if kind == layout::RECEIVE {
-        return Done::Refused(Refusal::EffectOnReceive);
+        return Err(Refusal::EffectOnReceive);
     }
-    Done::Accepted
+    Ok(())
 }
 
 // A clock among the resets of an action.
-fn reset_room(t: &[u64], a: usize) -> Done
+#[tactic(auto, unfolding(crate::specs::Checks::room_for_reset, laws::specs::Ladder::unless))]
+fn reset_room(t: &[u64], a: usize) -> Answer<()>
     requires { Sound t.now }
     ensures { result ≡ room_for_reset t.now a }
 {
-    let plain = plain_check(t, a);
-    if let Done::Refused(r) = plain {
-        return Done::Refused(r);
-    }
-    if sizes::RESETS <= inner::reset_count(t, a) {
-        return Done::Refused(Refusal::TableFull);
-    }
-    Done::Accepted
+    plain_check(t, a)?;
+    room_for(inner::reset_count(t, a), sizes::RESETS)
 }
 
-pub fn reset_check(t: &[u64], action: u32, clock: u32) -> Done
+#[tactic(auto, using(graph_tables::proofs::SoundLaws::sound), unfolding(crate::specs::Checks::reset_check, laws::specs::Ladder::unless))]
+pub fn reset_check(t: &[u64], action: u32, clock: u32) -> Answer<()>
     ensures { result ≡ reset_check t.now action clock }
 {
     if !formed::well_formed(t, true) {
-        return Done::Refused(Refusal::BadState);
+        return Err(Refusal::BadState);
     }
     if action == Action::EPSILON.0 {
-        return Done::Refused(Refusal::NoEffects);
+        return Err(Refusal::NoEffects);
     }
     if inner::clock_count(t) <= clock as usize {
-        return Done::Refused(Refusal::MissingClock);
+        return Err(Refusal::MissingClock);
     }
     reset_room(t, action as usize)
 }
 
 // Room for an effect of a plain action, and for its draws.
-fn effect_room(t: &[u64], a: usize, typed: Typed, draws: usize) -> Done
+#[tactic(auto, unfolding(crate::specs::Checks::room_for_effect, laws::specs::Ladder::unless))]
+fn effect_room(t: &[u64], a: usize, typed: Typed, draws: usize) -> Answer<()>
     requires { Sound t.now × (a < action_count t.now) × (action_kind t.now a ≡ plain_kind) × (draws ≤ item_room) }
     ensures { result ≡ room_for_effect t.now a typed draws }
 {
     if typed.too_deep() {
-        return Done::Refused(Refusal::TableFull);
+        return Err(Refusal::TableFull);
     }
     let n = inner::effect_count(t, a);
-    if sizes::EFFECTS <= n {
-        return Done::Refused(Refusal::TableFull);
-    }
+    room_for(n, sizes::EFFECTS)?;
     if sizes::DRAWS < tests::all_draws(t, a, n) + draws {
-        return Done::Refused(Refusal::TableFull);
+        return Err(Refusal::TableFull);
     }
-    Done::Accepted
+    Ok(())
 }
 
 // What a variable may be assigned.
-fn assigned_check(t: &[u64], v: usize, typed: Typed) -> Done
+#[tactic(auto, unfolding(crate::specs::Checks::assigned_check, laws::specs::Ladder::unless))]
+fn assigned_check(t: &[u64], v: usize, typed: Typed) -> Answer<()>
     requires { Sound t.now }
     ensures { result ≡ assigned_check t.now v typed }
 {
     if typed.too_long() {
-        return Done::Refused(Refusal::TableFull);
+        return Err(Refusal::TableFull);
     }
     if !typed.has_kind() {
-        return Done::Refused(Refusal::Type);
+        return Err(Refusal::Type);
     }
     if inner::variable_count(t) <= v {
-        return Done::Refused(Refusal::MissingVar);
+        return Err(Refusal::MissingVar);
     }
     if !typed.kinded_as(inner::kind_at(t, v)) {
-        return Done::Refused(Refusal::TypeMismatch);
+        return Err(Refusal::TypeMismatch);
     }
-    Done::Accepted
+    Ok(())
 }
 
-fn action_effect_check(t: &[u64], a: usize, items: &[u64], typed: Typed) -> Done
+#[tactic(auto, unfolding(crate::specs::Checks::action_effect_check, laws::specs::Ladder::unless))]
+fn action_effect_check(t: &[u64], a: usize, items: &[u64], typed: Typed) -> Answer<()>
     requires { Sound t.now × (length items.now ≤ item_room) }
     ensures { result ≡ action_effect_check t.now a typed (draws_of items.now) }
 {
-    let plain = plain_check(t, a);
-    if let Done::Refused(r) = plain {
-        return Done::Refused(r);
-    }
+    plain_check(t, a)?;
     effect_room(t, a, typed, draws::count_draws(items))
 }
 
-fn known_effect_check(t: &[u64], a: usize, v: usize, items: &[u64]) -> Done
+#[tactic(auto, using(crate::proofs::ReadyActions::assigned_short), unfolding(crate::specs::Checks::known_effect_check, laws::specs::Ladder::unless))]
+fn known_effect_check(t: &[u64], a: usize, v: usize, items: &[u64]) -> Answer<()>
     requires { Sound t.now }
     ensures { result ≡ known_effect_check t.now a v items.now }
 {
     let typed = typing::type_of(items, inner::kinds_of(t));
-    let assigned = assigned_check(t, v, typed);
-    if let Done::Refused(r) = assigned {
-        return Done::Refused(r);
-    }
+    assigned_check(t, v, typed)?;
     action_effect_check(t, a, items, typed)
 }
 
-pub fn effect_check(t: &[u64], action: u32, var: u32, items: &[u64]) -> Done
+#[tactic(auto, using(graph_tables::proofs::SoundLaws::sound), unfolding(crate::specs::Checks::effect_check, laws::specs::Ladder::unless))]
+pub fn effect_check(t: &[u64], action: u32, var: u32, items: &[u64]) -> Answer<()>
     ensures { result ≡ effect_check t.now action var items.now }
 {
     if !formed::well_formed(t, true) {
-        return Done::Refused(Refusal::BadState);
+        return Err(Refusal::BadState);
     }
     if action == Action::EPSILON.0 {
-        return Done::Refused(Refusal::NoEffects);
+        return Err(Refusal::NoEffects);
     }
     known_effect_check(t, action as usize, var as usize, items)
 }
 
-fn expression_check(items: &[u64], kinds: &[u64]) -> Done
+#[tactic(auto, unfolding(crate::specs::Checks::typed_check, laws::specs::Ladder::unless))]
+fn expression_check(items: &[u64], kinds: &[u64]) -> Answer<()>
     ensures { result ≡ typed_check (type_of kinds.now items.now) }
 {
     let typed = typing::type_of(items, kinds);
     if typed.too_long() {
-        return Done::Refused(Refusal::TableFull);
+        return Err(Refusal::TableFull);
     }
     if !typed.has_kind() {
-        return Done::Refused(Refusal::Type);
+        return Err(Refusal::Type);
     }
-    Done::Accepted
+    Ok(())
 }
 
 fn message_check<'a>(
@@ -334,19 +330,16 @@ fn message_check<'a>(
     y: &'a [u64],
     z: &'a [u64],
     count: usize,
-) -> Done
+) -> Answer<()>
     requires { Sound t.now }
     ensures { result
         ≡ each_below count (expression_check (kinds_of t.now) (chosen w.now x.now y.now
         z.now)) }
 {
     for i in 0..count {
-        let check = expression_check(actions::choose(w, x, y, z, i), inner::kinds_of(t));
-        if let Done::Refused(r) = check {
-            return Done::Refused(r);
-        }
+        expression_check(actions::choose(w, x, y, z, i), inner::kinds_of(t))?;
     }
-    Done::Accepted
+    Ok(())
 }
 
 fn is_shallow(items: &[u64], kinds: &[u64]) -> bool
@@ -386,6 +379,7 @@ fn message_draws<'a>(w: &'a [u64], x: &'a [u64], y: &'a [u64], z: &'a [u64], cou
     sum
 }
 
+#[tactic(auto, unfolding(crate::specs::Checks::send_room, laws::specs::Ladder::unless))]
 fn send_room<'a>(
     t: &[u64],
     w: &'a [u64],
@@ -393,22 +387,20 @@ fn send_room<'a>(
     y: &'a [u64],
     z: &'a [u64],
     count: usize,
-) -> Done
+) -> Answer<()>
     requires { Sound t.now × (count ≤ message_room) × ((i : ℕ) → i < count → length (chosen w.now x.now y.now z.now i) ≤ item_room) }
     ensures { result ≡ send_room t.now (chosen w.now x.now y.now z.now) count }
 {
     if !all_shallow(t, w, x, y, z, count) {
-        return Done::Refused(Refusal::TableFull);
+        return Err(Refusal::TableFull);
     }
     if sizes::DRAWS < message_draws(w, x, y, z, count) {
-        return Done::Refused(Refusal::TableFull);
+        return Err(Refusal::TableFull);
     }
-    if sizes::ACTIONS <= inner::action_count(t) {
-        return Done::Refused(Refusal::TableFull);
-    }
-    Done::Accepted
+    room_for(inner::action_count(t), sizes::ACTIONS)
 }
 
+#[tactic(auto, using(graph_tables::proofs::SoundLaws::sound), unfolding(crate::specs::Checks::send_check, laws::specs::Ladder::unless))]
 pub fn send_check<'a>(
     t: &[u64],
     w: &'a [u64],
@@ -416,22 +408,20 @@ pub fn send_check<'a>(
     y: &'a [u64],
     z: &'a [u64],
     count: usize,
-) -> Done
+) -> Answer<()>
     ensures { result ≡ send_check t.now (chosen w.now x.now y.now z.now) count }
 {
     if !formed::well_formed(t, true) {
-        return Done::Refused(Refusal::BadState);
+        return Err(Refusal::BadState);
     }
     if sizes::MESSAGE < count {
-        return Done::Refused(Refusal::TableFull);
+        return Err(Refusal::TableFull);
     }
-    let message = message_check(t, w, x, y, z, count);
-    if let Done::Refused(r) = message {
-        return Done::Refused(r);
-    }
+    message_check(t, w, x, y, z, count)?;
     send_room(t, w, x, y, z, count)
 }
 
+#[tactic(auto, unfolding(crate::specs::Checks::var_known))]
 fn var_known(t: &[u64], handed: Vars, i: usize) -> bool
     requires { Sound t.now × (i < message_room) }
     ensures { result ≡ var_known t.now handed i }
@@ -444,106 +434,94 @@ fn vars_known(t: &[u64], handed: Vars) -> bool
     requires { Sound t.now × (handed.count ≤ message_room) }
     ensures { result ≡ all_below handed.count (var_known t.now handed) }
 {
-    for i in 0..handed.count {
-        if !var_known(t, handed, i) {
-            return false;
-        }
-    }
-    true
+    (0..handed.count).all(|i| var_known(t, handed, i))
 }
 
-pub fn receive_check(t: &[u64], handed: Vars) -> Done
+#[tactic(auto, using(graph_tables::proofs::SoundLaws::sound), unfolding(crate::specs::Checks::receive_check, laws::specs::Ladder::unless))]
+pub fn receive_check(t: &[u64], handed: Vars) -> Answer<()>
     ensures { result ≡ receive_check t.now handed }
 {
     if !formed::well_formed(t, true) {
-        return Done::Refused(Refusal::BadState);
+        return Err(Refusal::BadState);
     }
     if sizes::MESSAGE < handed.count {
-        return Done::Refused(Refusal::TableFull);
+        return Err(Refusal::TableFull);
     }
     if !vars_known(t, handed) {
-        return Done::Refused(Refusal::MissingVar);
+        return Err(Refusal::MissingVar);
     }
-    if sizes::ACTIONS <= inner::action_count(t) {
-        return Done::Refused(Refusal::TableFull);
-    }
-    Done::Accepted
+    room_for(inner::action_count(t), sizes::ACTIONS)
 }
 
 #[tactic(auto, unfolding(crate::specs::Checks::ends_check, laws::specs::Ladder::unless))]
-fn ends_check(t: &[u64], pre: u32, action: u32, post: u32) -> Done
+fn ends_check(t: &[u64], pre: u32, action: u32, post: u32) -> Answer<()>
     requires { Sound t.now }
     ensures { result ≡ ends_check t.now pre action post }
 {
     let n = inner::location_count(t);
     if n <= pre as usize {
-        return Done::Refused(Refusal::MissingLocation);
+        return Err(Refusal::MissingLocation);
     }
     if n <= post as usize {
-        return Done::Refused(Refusal::MissingLocation);
+        return Err(Refusal::MissingLocation);
     }
     if !tests::action_known(t, action) {
-        return Done::Refused(Refusal::MissingAction);
+        return Err(Refusal::MissingAction);
     }
-    Done::Accepted
+    Ok(())
 }
 
 // A guard is a boolean without draws.
-fn guard_check(t: &[u64], items: &[u64]) -> Done
+#[tactic(auto, unfolding(crate::specs::Checks::guard_check, laws::specs::Ladder::unless))]
+fn guard_check(t: &[u64], items: &[u64]) -> Answer<()>
     requires { Sound t.now }
     ensures { result ≡ guard_check t.now items.now }
 {
     let typed = typing::type_of(items, inner::kinds_of(t));
     if typed.too_long() {
-        return Done::Refused(Refusal::TableFull);
+        return Err(Refusal::TableFull);
     }
     if !typed.kinded_as(layout::BOOLEAN) {
-        return Done::Refused(Refusal::Type);
+        return Err(Refusal::Type);
     }
     if draws::has_draws(items) {
-        return Done::Refused(Refusal::Type);
+        return Err(Refusal::Type);
     }
     if typed.too_deep() {
-        return Done::Refused(Refusal::TableFull);
+        return Err(Refusal::TableFull);
     }
-    Done::Accepted
+    Ok(())
 }
 
-fn if_guarded(t: &[u64], guarded: bool, items: &[u64]) -> Done
+fn if_guarded(t: &[u64], guarded: bool, items: &[u64]) -> Answer<()>
     requires { Sound t.now }
     ensures { result ≡ if_guarded guarded (guard_check t.now items.now) }
 {
     if guarded {
         return guard_check(t, items);
     }
-    Done::Accepted
+    Ok(())
 }
 
-fn guard_room(t: &[u64], guarded: bool, items: &[u64]) -> Done
+#[tactic(auto, unfolding(crate::specs::Checks::guard_room, laws::specs::Ladder::unless))]
+fn guard_room(t: &[u64], guarded: bool, items: &[u64]) -> Answer<()>
     requires { Sound t.now }
     ensures { result ≡ guard_room t.now guarded items.now }
 {
-    let guard = if_guarded(t, guarded, items);
-    if let Done::Refused(r) = guard {
-        return Done::Refused(r);
-    }
-    if sizes::TRANSITIONS <= inner::transition_count(t) {
-        return Done::Refused(Refusal::TableFull);
-    }
-    Done::Accepted
+    if_guarded(t, guarded, items)?;
+    room_for(inner::transition_count(t), sizes::TRANSITIONS)
 }
 
-fn conditions_check(t: &[u64], guarded: bool, items: &[u64], handed: Limits) -> Done
+#[tactic(auto, unfolding(crate::specs::Checks::conditions_check, laws::specs::Ladder::unless))]
+fn conditions_check(t: &[u64], guarded: bool, items: &[u64], handed: Limits) -> Answer<()>
     requires { Sound t.now }
     ensures { result ≡ conditions_check t.now guarded items.now handed }
 {
-    let limits = limits_check(t, handed);
-    if let Done::Refused(r) = limits {
-        return Done::Refused(r);
-    }
+    limits_check(t, handed)?;
     guard_room(t, guarded, items)
 }
 
+#[tactic(auto, using(graph_tables::proofs::SoundLaws::sound), unfolding(crate::specs::Checks::transition_check, laws::specs::Ladder::unless))]
 pub fn transition_check(
     t: &[u64],
     pre: u32,
@@ -552,15 +530,12 @@ pub fn transition_check(
     guarded: bool,
     items: &[u64],
     handed: Limits,
-) -> Done
+) -> Answer<()>
     ensures { result ≡ transition_check t.now pre action post guarded items.now handed }
 {
     if !formed::well_formed(t, true) {
-        return Done::Refused(Refusal::BadState);
+        return Err(Refusal::BadState);
     }
-    let ends = ends_check(t, pre, action, post);
-    if let Done::Refused(r) = ends {
-        return Done::Refused(r);
-    }
+    ends_check(t, pre, action, post)?;
     conditions_check(t, guarded, items, handed)
 }

@@ -1,11 +1,9 @@
 -- Refusals and their numbers are one to one, and so an answer's number says which refusal it is, or that it is none.
+use Rattle.std.specs.Prelude.{Ok, Err, ⊤}
 use mathlib.Core.Path.{◌≡◌, refl, sym, ap, ◌∙◌}
 use native.Mathlib.Omega.{arith}
 use Rattle.graph_tables.specs.Refusals.{number_of, refusal}
-use Rattle.graph_tables.specs.Answers.{done_number, placed_number, var_type_number}
-use Rattle.graph_tables.specs.declared.answers.Done.{Done}
-use Rattle.graph_tables.specs.declared.answers.Placed.{Placed}
-use Rattle.graph_tables.specs.declared.answers.VarType.{VarType}
+use Rattle.graph_tables.specs.Answers.{Answer, answer_number}
 use Rattle.graph_tables.specs.declared.refusals.Refusal.{Refusal}
 use Rattle.graph_tables.specs.declared.refusals.Refusal.TheVariants as R
 
@@ -53,16 +51,12 @@ above_ok r e =
     let one : number_of r ≡ 1 = ap number_of first in
     omega arith
 
-pub done_injective : (d e : Done) → done_number d ≡ done_number e → d ≡ e
-done_injective Done.Accepted Done.Accepted h = refl
-done_injective Done.Accepted (Done.Refused r) h = absurd (above_ok r (sym h))
-done_injective (Done.Refused q) Done.Accepted h = absurd (above_ok q h)
-done_injective (Done.Refused q) (Done.Refused r) h = ap Done.Refused (number_injective q r h)
+pub done_injective : (d e : Answer ⊤) → answer_number d ≡ answer_number e → d ≡ e
+done_injective (Ok _) (Ok _) h = refl
+done_injective (Ok _) (Err r) h = absurd (above_ok r (sym h))
+done_injective (Err q) (Ok _) h = absurd (above_ok q h)
+done_injective (Err q) (Err r) h = ap Err (number_injective q r h)
 
-pub placed_refusal : (p : Placed) (r : Refusal) → placed_number p ≡ number_of r → p ≡ Placed.Refused r
-placed_refusal (Placed.At n) r h = absurd (above_ok r (sym h))
-placed_refusal (Placed.Refused q) r h = ap Placed.Refused (number_injective q r h)
-
-pub var_type_refusal : (v : VarType) (r : Refusal) → var_type_number v ≡ number_of r → v ≡ VarType.Refused r
-var_type_refusal (VarType.Known k) r h = absurd (above_ok r (sym h))
-var_type_refusal (VarType.Refused q) r h = ap VarType.Refused (number_injective q r h)
+pub answer_refusal : {A : Type 0} (a : Answer A) (r : Refusal) → answer_number a ≡ number_of r → a ≡ Err r
+answer_refusal (Ok x) r h = absurd (above_ok r (sym h))
+answer_refusal (Err q) r h = ap Err (number_injective q r h)

@@ -1,18 +1,17 @@
--- The number of each answer: 0 for ok, else the refusal's.
-use Rattle.std.specs.Prelude.{ℕ}
+-- What calls answer, and the number of each answer: 0 for ok, else the refusal's.
+use Rattle.std.specs.Prelude.{ℕ, Ok, Err, ⊤}
+use Rattle.std.specs.declared.result.Result.{Result}
 use Rattle.graph_tables.specs.Refusals.{number_of}
-use Rattle.graph_tables.specs.declared.answers.Done.{Done}
-use Rattle.graph_tables.specs.declared.answers.Placed.{Placed}
-use Rattle.graph_tables.specs.declared.answers.VarType.{VarType}
+use Rattle.graph_tables.specs.declared.refusals.Refusal.{Refusal}
 
-abbrev pub done_number : Done → ℕ
-done_number Done.Accepted = 0
-done_number (Done.Refused r) = number_of r
+-- what was asked for, or a refusal
+abbrev pub Answer : Type 0 → Type 0
+Answer A = Result A Refusal
 
-abbrev pub placed_number : Placed → ℕ
-placed_number (Placed.At n) = 0
-placed_number (Placed.Refused r) = number_of r
+abbrev pub answer_number : {A : Type 0} → Answer A → ℕ
+answer_number (Ok x) = 0
+answer_number (Err r) = number_of r
 
-abbrev pub var_type_number : VarType → ℕ
-var_type_number (VarType.Known k) = 0
-var_type_number (VarType.Refused r) = number_of r
+-- nothing was asked for, and the call is accepted
+abbrev pub admitted : Answer ⊤
+admitted = Ok tt

@@ -18,6 +18,7 @@ use crate::inner::{places, tests};
 use crate::{inner, layout, sizes};
 use grammar::inner::digits;
 
+#[tactic(auto, using(laws::proofs::BelowLaws::and_yes, laws::proofs::BelowLaws::and_no), unfolding(crate::specs::Formed::counts_formed))]
 fn counts_formed(t: &[u64]) -> bool
     requires { Words t.now }
     ensures { result ≡ counts_formed t.now }
@@ -40,6 +41,7 @@ fn counts_formed(t: &[u64]) -> bool
     inner::transition_count(t) <= sizes::TRANSITIONS
 }
 
+#[tactic(auto, using(laws::proofs::BelowLaws::and_yes, laws::proofs::BelowLaws::and_no), unfolding(crate::specs::Formed::variable_formed))]
 fn variable_formed(t: &[u64], v: usize) -> bool
     requires { Words t.now × (v < variable_room) }
     ensures { result ≡ variable_formed t.now v }
@@ -55,6 +57,7 @@ fn variable_formed(t: &[u64], v: usize) -> bool
     value < layout::WORD32
 }
 
+#[tactic(auto, using(laws::proofs::BelowLaws::and_yes, laws::proofs::BelowLaws::and_no), unfolding(crate::specs::Formed::bound_formed))]
 fn bound_formed(w: u64) -> bool
     ensures { result ≡ bound_formed w }
 {
@@ -81,6 +84,7 @@ fn clock_before(t: &[u64], g: usize, i: usize) -> usize
     inner::clock_of(t, g, i - 1)
 }
 
+#[tactic(auto, using(laws::proofs::BelowLaws::and_yes, laws::proofs::BelowLaws::and_no), unfolding(crate::specs::Formed::limit_formed))]
 fn limit_formed(t: &[u64], g: usize, i: usize) -> bool
     requires { Words t.now × (g < group_room) × (i < limit_room) }
     ensures { result ≡ limit_formed t.now g i }
@@ -98,18 +102,7 @@ fn limit_formed(t: &[u64], g: usize, i: usize) -> bool
     clock_before(t, g, i) <= clock
 }
 
-fn all_limits_formed(t: &[u64], g: usize, n: usize) -> bool
-    requires { Words t.now × (g < group_room) × (n ≤ limit_room) }
-    ensures { result ≡ all_below n (limit_formed t.now g) }
-{
-    for i in 0..n {
-        if !limit_formed(t, g, i) {
-            return false;
-        }
-    }
-    true
-}
-
+#[tactic(auto, using(laws::proofs::BelowLaws::and_yes, laws::proofs::BelowLaws::and_no), unfolding(crate::specs::Formed::limits_formed))]
 fn limits_formed(t: &[u64], g: usize, n: usize) -> bool
     requires { Words t.now × (g < group_room) }
     ensures { result ≡ limits_formed t.now g n }
@@ -117,9 +110,10 @@ fn limits_formed(t: &[u64], g: usize, n: usize) -> bool
     if sizes::LIMITS < n {
         return false;
     }
-    all_limits_formed(t, g, n)
+    (0..n).all(|i| limit_formed(t, g, i))
 }
 
+#[tactic(auto, using(laws::proofs::BelowLaws::and_yes, laws::proofs::BelowLaws::and_no, crate::proofs::FormedLaws::no_limits_lem), unfolding(crate::specs::Formed::location_formed))]
 fn location_formed(t: &[u64], l: usize) -> bool
     requires { Words t.now × (l < location_room) }
     ensures { result ≡ location_formed t.now l }
@@ -131,6 +125,7 @@ fn location_formed(t: &[u64], l: usize) -> bool
     limits_formed(t, inner::invariant_group(l), n)
 }
 
+#[tactic(auto, using(laws::proofs::BelowLaws::and_yes, laws::proofs::BelowLaws::and_no), unfolding(crate::specs::Formed::process_formed))]
 fn process_formed(t: &[u64], p: usize) -> bool
     requires { Words t.now × (p < process_room) × (location_count t.now ≤ location_room)
         × (all_below (location_count t.now) (location_formed t.now) ≡ true) }
@@ -153,6 +148,7 @@ fn reset_before(t: &[u64], a: usize, i: usize) -> usize
     inner::reset_at(t, a, i - 1)
 }
 
+#[tactic(auto, using(laws::proofs::BelowLaws::and_yes, laws::proofs::BelowLaws::and_no), unfolding(crate::specs::Formed::reset_formed))]
 fn reset_formed(t: &[u64], a: usize, i: usize) -> bool
     requires { Words t.now × (a < action_room) × (i < reset_room) }
     ensures { result ≡ reset_formed t.now a i }
@@ -164,18 +160,7 @@ fn reset_formed(t: &[u64], a: usize, i: usize) -> bool
     reset_before(t, a, i) <= clock
 }
 
-fn all_resets_formed(t: &[u64], a: usize, n: usize) -> bool
-    requires { Words t.now × (a < action_room) × (n ≤ reset_room) }
-    ensures { result ≡ all_below n (reset_formed t.now a) }
-{
-    for i in 0..n {
-        if !reset_formed(t, a, i) {
-            return false;
-        }
-    }
-    true
-}
-
+#[tactic(auto, using(laws::proofs::BelowLaws::and_yes, laws::proofs::BelowLaws::and_no), unfolding(crate::specs::Formed::resets_formed))]
 fn resets_formed(t: &[u64], a: usize) -> bool
     requires { Words t.now × (a < action_room) }
     ensures { result ≡ resets_formed t.now a }
@@ -184,10 +169,11 @@ fn resets_formed(t: &[u64], a: usize) -> bool
     if sizes::RESETS < n {
         return false;
     }
-    all_resets_formed(t, a, n)
+    (0..n).all(|i| reset_formed(t, a, i))
 }
 
 // An expression of n items: what `digits` tells of it.
+#[tactic(auto, unfolding(crate::specs::Inner::known_at))]
 fn known_at(t: &[u64], n: usize, from: usize) -> u64
     requires { Words t.now × (variable_count t.now ≤ variable_room) × KindsFit t.now × (from + item_room ≤ table_words) }
     ensures { result ≡ known_at t.now n from }
@@ -206,6 +192,7 @@ fn known_effect(t: &[u64], a: usize, e: usize) -> u64
 }
 
 // The draws of an effect, and of an expression of a message; more than there is room for, where it is not well formed.
+#[tactic(auto, using(crate::proofs::FormedLaws::draws_not, crate::proofs::FormedLaws::draws_told_lem, crate::proofs::FormedLaws::effect_known, crate::proofs::FormedLaws::effect_unknown, crate::proofs::FormedLaws::effect_told))]
 fn effect_draws(t: &[u64], a: usize, e: usize) -> usize
     requires { Words t.now × (variable_count t.now ≤ variable_room) × KindsFit t.now × (a < action_room) × (e < effect_room) }
     ensures { result ≡ draws_if (effect_formed t.now a e) (effect_draws t.now a e) }
@@ -221,21 +208,7 @@ fn effect_draws(t: &[u64], a: usize, e: usize) -> usize
     digits::draws_in(known)
 }
 
-fn effects_formed(t: &[u64], a: usize, n: usize) -> bool
-    requires { Words t.now × (variable_count t.now ≤ variable_room) × KindsFit t.now × (a < action_room) × (n ≤ effect_room) }
-    ensures { result ≡ all_within n (effect_formed t.now a) (effect_draws t.now a) }
-{
-    let mut sum: usize = 0;
-    for e in 0..n {
-        let draws = effect_draws(t, a, e);
-        if sizes::DRAWS < draws {
-            return false;
-        }
-        sum += draws;
-    }
-    sum <= sizes::DRAWS
-}
-
+#[tactic(auto, using(laws::proofs::BelowLaws::and_yes, laws::proofs::BelowLaws::and_no), unfolding(crate::specs::Formed::plain_formed))]
 fn plain_formed(t: &[u64], a: usize) -> bool
     requires { Words t.now × (variable_count t.now ≤ variable_room) × KindsFit t.now × (a < action_room) }
     ensures { result ≡ plain_formed t.now a }
@@ -247,9 +220,10 @@ fn plain_formed(t: &[u64], a: usize) -> bool
     if sizes::EFFECTS < n {
         return false;
     }
-    effects_formed(t, a, n)
+    (0..n).map(|e| effect_draws(t, a, e)).sum::<usize>() <= sizes::DRAWS
 }
 
+#[tactic(auto, using(crate::proofs::FormedLaws::draws_not, crate::proofs::FormedLaws::draws_told_lem, crate::proofs::FormedLaws::expression_known, crate::proofs::FormedLaws::expression_told))]
 fn expression_draws(t: &[u64], a: usize, e: usize) -> usize
     requires { Words t.now × (variable_count t.now ≤ variable_room) × KindsFit t.now × (a < action_room) × (e < effect_room) }
     ensures { result ≡ draws_if (expression_formed t.now a e) (effect_draws t.now a e) }
@@ -261,21 +235,7 @@ fn expression_draws(t: &[u64], a: usize, e: usize) -> usize
     digits::draws_in(known)
 }
 
-fn expressions_formed(t: &[u64], a: usize, n: usize) -> bool
-    requires { Words t.now × (variable_count t.now ≤ variable_room) × KindsFit t.now × (a < action_room) × (n ≤ effect_room) }
-    ensures { result ≡ all_within n (expression_formed t.now a) (effect_draws t.now a) }
-{
-    let mut sum: usize = 0;
-    for e in 0..n {
-        let draws = expression_draws(t, a, e);
-        if sizes::DRAWS < draws {
-            return false;
-        }
-        sum += draws;
-    }
-    sum <= sizes::DRAWS
-}
-
+#[tactic(auto, using(laws::proofs::BelowLaws::and_yes, laws::proofs::BelowLaws::and_no), unfolding(crate::specs::Formed::send_formed))]
 fn send_formed(t: &[u64], a: usize) -> bool
     requires { Words t.now × (variable_count t.now ≤ variable_room) × KindsFit t.now × (a < action_room) }
     ensures { result ≡ send_formed t.now a }
@@ -287,9 +247,10 @@ fn send_formed(t: &[u64], a: usize) -> bool
     if sizes::MESSAGE < n {
         return false;
     }
-    expressions_formed(t, a, n)
+    (0..n).map(|e| expression_draws(t, a, e)).sum::<usize>() <= sizes::DRAWS
 }
 
+#[tactic(auto, using(laws::proofs::BelowLaws::and_yes, laws::proofs::BelowLaws::and_no), unfolding(crate::specs::Formed::target_formed))]
 fn target_formed(t: &[u64], a: usize, e: usize) -> bool
     requires { Words t.now × (a < action_room) × (e < effect_room) }
     ensures { result ≡ target_formed t.now a e }
@@ -297,18 +258,7 @@ fn target_formed(t: &[u64], a: usize, e: usize) -> bool
     inner::effect_var(t, a, e) < inner::variable_count(t)
 }
 
-fn all_targets_formed(t: &[u64], a: usize, n: usize) -> bool
-    requires { Words t.now × (a < action_room) × (n ≤ effect_room) }
-    ensures { result ≡ all_below n (target_formed t.now a) }
-{
-    for i in 0..n {
-        if !target_formed(t, a, i) {
-            return false;
-        }
-    }
-    true
-}
-
+#[tactic(auto, using(laws::proofs::BelowLaws::and_yes, laws::proofs::BelowLaws::and_no), unfolding(crate::specs::Formed::receive_formed))]
 fn receive_formed(t: &[u64], a: usize) -> bool
     requires { Words t.now × (a < action_room) }
     ensures { result ≡ receive_formed t.now a }
@@ -320,9 +270,10 @@ fn receive_formed(t: &[u64], a: usize) -> bool
     if sizes::MESSAGE < n {
         return false;
     }
-    all_targets_formed(t, a, n)
+    (0..n).all(|e| target_formed(t, a, e))
 }
 
+#[tactic(auto, using(laws::proofs::BelowLaws::and_yes, laws::proofs::BelowLaws::and_no), unfolding(crate::specs::Formed::action_formed))]
 fn action_formed(t: &[u64], a: usize) -> bool
     requires { Words t.now × (variable_count t.now ≤ variable_room) × KindsFit t.now × (a < action_room) }
     ensures { result ≡ action_formed t.now a }
@@ -340,6 +291,7 @@ fn action_formed(t: &[u64], a: usize) -> bool
     receive_formed(t, a)
 }
 
+#[tactic(auto, using(laws::proofs::BelowLaws::and_yes, laws::proofs::BelowLaws::and_no), unfolding(crate::specs::Formed::key_formed))]
 fn key_formed(t: &[u64], key: u64) -> bool
     requires { Words t.now }
     ensures { result ≡ key_formed t.now key }
@@ -364,6 +316,7 @@ fn key_before(t: &[u64], k: usize) -> u64
     inner::key_of(t, k - 1)
 }
 
+#[tactic(auto, using(crate::proofs::FormedLaws::guard_known), unfolding(crate::specs::Formed::guard_formed))]
 fn guard_formed(t: &[u64], k: usize) -> bool
     requires { Words t.now × (variable_count t.now ≤ variable_room) × KindsFit t.now × (k < transition_room) }
     ensures { result ≡ guard_formed t.now k }
@@ -393,87 +346,28 @@ fn transition_formed(t: &[u64], k: usize) -> bool
     limits_formed(t, k, n)
 }
 
-fn all_variables_formed(t: &[u64], n: usize) -> bool
-    requires { Words t.now × (n ≤ variable_room) }
-    ensures { result ≡ all_below n (variable_formed t.now) }
-{
-    for i in 0..n {
-        if !variable_formed(t, i) {
-            return false;
-        }
-    }
-    true
-}
-
-fn all_locations_formed(t: &[u64], n: usize) -> bool
-    requires { Words t.now × (n ≤ location_room) }
-    ensures { result ≡ all_below n (location_formed t.now) }
-{
-    for i in 0..n {
-        if !location_formed(t, i) {
-            return false;
-        }
-    }
-    true
-}
-
-fn all_processes_formed(t: &[u64], n: usize) -> bool
-    requires { Words t.now × (n ≤ process_room) × (location_count t.now ≤ location_room)
-        × (all_below (location_count t.now) (location_formed t.now) ≡ true) }
-    ensures { result ≡ all_below n (process_formed t.now) }
-{
-    for i in 0..n {
-        if !process_formed(t, i) {
-            return false;
-        }
-    }
-    true
-}
-
-fn all_actions_formed(t: &[u64], n: usize) -> bool
-    requires { Words t.now × (variable_count t.now ≤ variable_room) × KindsFit t.now × (n ≤ action_room) }
-    ensures { result ≡ all_below n (action_formed t.now) }
-{
-    for i in 0..n {
-        if !action_formed(t, i) {
-            return false;
-        }
-    }
-    true
-}
-
-fn all_transitions_formed(t: &[u64], n: usize) -> bool
-    requires { Words t.now × (variable_count t.now ≤ variable_room) × KindsFit t.now × (n ≤ transition_room) }
-    ensures { result ≡ all_below n (transition_formed t.now) }
-{
-    for i in 0..n {
-        if !transition_formed(t, i) {
-            return false;
-        }
-    }
-    true
-}
-
+#[tactic(auto, using(laws::proofs::BelowLaws::and_yes, laws::proofs::BelowLaws::and_no), unfolding(crate::specs::Formed::parts_formed))]
 fn parts_formed(t: &[u64]) -> bool
     requires { Words t.now × Counted t.now }
     ensures { result ≡ parts_formed t.now }
 {
-    if !all_variables_formed(t, inner::variable_count(t)) {
+    if !(0..inner::variable_count(t)).all(|v| variable_formed(t, v)) {
         return false;
     }
-    if !all_locations_formed(t, inner::location_count(t)) {
+    if !(0..inner::location_count(t)).all(|l| location_formed(t, l)) {
         return false;
     }
-    if !all_processes_formed(t, inner::process_count(t)) {
+    if !(0..inner::process_count(t)).all(|p| process_formed(t, p)) {
         return false;
     }
-    if !all_actions_formed(t, inner::action_count(t)) {
+    if !(0..inner::action_count(t)).all(|a| action_formed(t, a)) {
         return false;
     }
-    all_transitions_formed(t, inner::transition_count(t))
+    (0..inner::transition_count(t)).all(|k| transition_formed(t, k))
 }
 
 // Whether there is a process, where there has to be one.
+#[tactic(auto, unfolding(crate::specs::Formed::started_of))]
 fn started(t: &[u64], building: bool) -> bool
     requires { Words t.now }
     ensures { result ≡ started_of t.now building }
@@ -485,6 +379,7 @@ fn started(t: &[u64], building: bool) -> bool
 }
 
 // Whether a table is well formed; while a graph is being built it may lack a process.
+#[tactic(auto, using(laws::proofs::BelowLaws::and_yes, laws::proofs::BelowLaws::and_no, crate::proofs::FormedLaws::counted), unfolding(crate::specs::Formed::well_formed))]
 pub fn well_formed(t: &[u64], building: bool) -> bool
     ensures { result ≡ well_formed t.now building }
 {

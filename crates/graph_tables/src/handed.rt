@@ -1,4 +1,5 @@
 // Lists that are handed to calls, each with its count, which may be above what there is room for.
+// They stay arrays with a count: public calls take them by value, and what they answer to a count above the room is promised (28).
 ghost use Rattle.std.specs.Prelude.{◌≡◌};
 ghost use Rattle.graph_tables.specs.Handed.{no_limits};
 

@@ -1,5 +1,7 @@
 // The words of a graph, by name: read here, written and placed in the modules below. Each function asks for a table of the
 // right length and a number within its size; what stands there may be anything.
+// Readers that differ in a constant stay apart, here and in the modules below: each is one line, and a call of one generic function, as
+// `word::<{..}>(t)`, would be as long and say less.
 pub mod messages;
 pub mod places;
 pub mod tests;

@@ -1,4 +1,5 @@
-// Where the words of a table stand: regions, rows, and what a row has.
+// Where the words of a table stand: regions, rows, and what a row has. Kinds are numbers and no enums: a table's words are lent, by C too, and
+// any number may stand in one.
 // Counts.
 pub const VARIABLES: usize = 0;
 

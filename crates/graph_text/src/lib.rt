@@ -1,8 +1,12 @@
-// What lines on a graph hand over beside plain tokens: limits, guards and messages; and what its calls answer, as text.
+// What lines on a graph hand over beside plain tokens, limits, guards and messages, read by a cursor; and what is written of
+// the calls' answers.
 #![tactic(auto)]
 
-pub mod answers;
+pub mod faults;
+pub mod guards;
+pub mod limits;
+pub mod lines;
 pub mod lists;
 pub mod messages;
 pub mod pairs;
-pub mod writing;
+pub mod replies;

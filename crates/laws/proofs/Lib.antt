@@ -3,4 +3,7 @@ pub mod BelowLaws
 pub mod Tests
 pub mod Each
 pub mod Lists
+pub mod Chains
+pub mod Ranges
+pub mod RangeSums
 pub mod Copies

@@ -6,17 +6,17 @@ use native.Mathlib.Nat.{lt_of_not-le, not-le_of_lt}
 use native.Mathlib.Decide.{ℕ_discrete}
 use native.Mathlib.Omega.{arith}
 use lib.Dec.{leb, eqb}
-use borrow.Author.Tests.{not-true, not-false, leb-true, leb-false, le-leb, lt-leb, eq-eqb, ne_eqb}
+use borrow.Author.Tests.{leb-true, leb-false, le-leb, lt-leb, eq-eqb, ne_eqb}
 
 pub never : {P : Type 0} → false ≡ true → P
 never e = let z : ◌≡◌ {A = ℕ} 0 1 = cc in absurd (omega arith)
 
 -- a code's `if !f(..) { return ..; }`: r is what f gave, p what its contract says
-pub held : {r p : Bool} → r ≡ p → not r ≡ false → p ≡ true
-held {r} e n = sym e ∙ not-false r n
+pub held : {r p : Bool} → r ≡ p → r ≡ true → p ≡ true
+held e h = sym e ∙ h
 
-pub failed : {r p : Bool} → r ≡ p → not r ≡ true → p ≡ false
-failed {r} e n = sym e ∙ not-true r n
+pub failed : {r p : Bool} → r ≡ p → r ≡ false → p ≡ false
+failed e h = sym e ∙ h
 
 -- a code's `if f(..) { return ..; }`, where the definition asks that it is not so
 pub denied : {r p : Bool} → r ≡ p → r ≡ true → not p ≡ false

@@ -1,9 +1,9 @@
 -- A graph that calls built and `build` accepted: no call on a run of it answers 32.
+use Rattle.graph_tables.specs.Answers.{admitted}
 use Prim.Native.Nat.{ℕ}
 use mathlib.Core.Path.{◌≡◌}
 use mathlib.Core.List.{List}
 use Rattle.graph_tables.specs.Words.{Words}
-use Rattle.graph_tables.specs.declared.answers.Done.TheVariants as Done
 use Rattle.graph_builder.specs.Building.{empty_of, build_of}
 use Rattle.graph_builder.specs.Chains.{Call, after_all, AllFit}
 use Rattle.graph_builder.proofs.Theorems.{chain_runnable}
@@ -22,6 +22,6 @@ module _ (t : List ℕ) (words : Words t) (calls more : List Call) (fit : AllFit
   whole = after_all built more
 
   -- From a fresh run of it, after any chain of calls, none answers 32.
-  pub built_known : build_of built ≡ Done.Accepted → (done : List RunCall) (call : RunCall)
+  pub built_known : build_of built ≡ admitted → (done : List RunCall) (call : RunCall)
       → Not 32 (answer_to whole (run_after_all whole (new_run_of whole).run done) call)
   built_known e done call = chain_known whole (chain_runnable t words calls fit more also e) done call

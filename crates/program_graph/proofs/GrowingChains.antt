@@ -9,7 +9,7 @@ use Rattle.laws.specs.Below.{◌and◌}
 use Rattle.laws.proofs.BelowLaws.{and_first, and_rest, and_both}
 use Rattle.laws.proofs.Tests.{never}
 use Rattle.graph_tables.specs.Words.{clock_count, action_count}
-use Rattle.graph_tables.specs.Answers.{done_number}
+use Rattle.graph_tables.specs.Answers.{answer_number}
 use Rattle.graph_tables.specs.Formed.{well_formed}
 use Rattle.graph_builder.specs.Building.{add_reset_of}
 use Rattle.graph_builder.specs.Chains.{Call, add_reset, answer_of, Fits}
@@ -103,7 +103,7 @@ module _ (s : Stage) (f : fitting s ≡ true) (z : Sized s.run) where
 
   -- and after one that added one every running call does.
   pub growing_bad : (ms : List Member) → MembersFit ms → adds_none s ms ≡ false
-      → (call : RunCall) → done_number (answer_to (next_all s ms).table (next_all s ms).run call) ≡ 32
+      → (call : RunCall) → answer_number (answer_to (next_all s ms).table (next_all s ms).run call) ≡ 32
   growing_bad ms fit n call = bad_answer (next_all s ms).table (next_all s ms).run call (fits_exactly s f z ms fit ∙ n)
 
   -- So no running call of a chain that adds none answers 32.

@@ -13,7 +13,7 @@ use Rattle.graph_edits.specs.Lists.{list_of, StoredLimit, limit_at}
 use Rattle.graph_builder.specs.Chains.{Call, after, Fits}
 use Rattle.graph_builder.proofs.KeptParts.{invariants_kept}
 use Rattle.graph_builder.proofs.Theorems.{parts_stay, none_fewer, stays_formed}
-use Rattle.program_graph.specs.Facts.{Sized, Ok, InvariantsAt, Holding}
+use Rattle.program_graph.specs.Facts.{Sized, Accepted, InvariantsAt, Holding}
 use Rattle.program_graph.specs.RunChains.{RunCall, answer_to, run_after}
 use Rattle.program_graph.specs.GrowingChains.{Member, runs, builds, Stage, fresh, fitting, next, next_all, MembersFit}
 use Rattle.program_graph.specs.declared.record.ProgramGraphRun.{ProgramGraphRun}
@@ -110,7 +110,7 @@ module _ (s : Stage) (f : fitting s ≡ true) (z : Sized s.run) where
 
   -- After an accepted running call they hold, and after every chain behind it.
   pub invariants_after : (first : List Member) (call : RunCall) (second : List Member) → MembersFit (first ++ (runs call ∷ second))
-      → Ok (answer_to (next_all s first).table (next_all s first).run call) → AllHold (next_all s (first ++ (runs call ∷ second)))
+      → Accepted (answer_to (next_all s first).table (next_all s first).run call) → AllHold (next_all s (first ++ (runs call ∷ second)))
   invariants_after first call second fit e =
       let at : Stage = next_all s first in
       let d : Placed at = placed_all s first (fit_first first (runs call ∷ second) fit) (placed_first s f z) in

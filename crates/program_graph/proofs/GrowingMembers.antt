@@ -11,7 +11,7 @@ use Rattle.laws.proofs.BelowLaws.{and_first, and_rest, and_both, all_kept}
 use Rattle.grammar.specs.Slots.{val_of, kind_in}
 use Rattle.grammar.specs.Evaluation.{blank}
 use Rattle.graph_tables.specs.Words.{variable_count, location_count, kind_at, value_at}
-use Rattle.graph_tables.specs.Answers.{done_number}
+use Rattle.graph_tables.specs.Answers.{answer_number}
 use Rattle.graph_tables.specs.Formed.{well_formed}
 use Rattle.graph_tables.specs.Sound.{Sound}
 use Rattle.graph_tables.proofs.SoundLaws.{sound}
@@ -21,17 +21,14 @@ use Rattle.graph_builder.specs.Chains.{Call, after, Fits}
 use Rattle.graph_builder.specs.Reading.{graph_of}
 use Rattle.graph_builder.proofs.KeptParts.{Kept, variable_kept}
 use Rattle.graph_builder.proofs.Theorems.{parts_stay, none_fewer, stays_runnable}
-use Rattle.program_graph.specs.Facts.{Sized, Ok}
-use Rattle.program_graph.specs.Running.{refused, refused_wait, place_known, var_fits, counts_same, run_formed, fits_table}
+use Rattle.program_graph.specs.Facts.{Sized, Accepted}
+use Rattle.program_graph.specs.Running.{refused, place_known, var_fits, counts_same, run_formed, fits_table}
 use Rattle.program_graph.specs.Running.{transition_of, wait_of}
-use Rattle.program_graph.specs.Messaging.{refused_send, refused_receive, send_of, receive_of}
+use Rattle.program_graph.specs.Messaging.{refused_send, send_of, receive_of}
 use Rattle.program_graph.specs.RunChains.{RunCall, transition, wait, send, receive, answer_to, run_after}
 use Rattle.program_graph.specs.GrowingChains.{widens}
 use Rattle.program_graph.specs.declared.record.ProgramGraphRun.{ProgramGraphRun}
-use Rattle.program_graph.specs.declared.answers.Stepped.{Stepped}
-use Rattle.program_graph.specs.declared.answers.Waited.{Waited}
-use Rattle.program_graph.specs.declared.answers.Sent.{Sent}
-use Rattle.program_graph.specs.declared.answers.Received.{Received}
+use Rattle.program_graph.specs.Outcomes.{RunOutcome, Sent}
 use Rattle.program_graph.proofs.RunLaws.{table_formed, run_formed_lem, same_processes, same_variables, same_clocks}
 use Rattle.program_graph.proofs.RunChains.{call_keeps, call_refused}
 use Rattle.program_graph.proofs.GrowingCounts.{SameCounts, total, counts_stay}
@@ -43,16 +40,16 @@ for_building t h = together t (apart t false h)
 -- ---- a call on a run that does not fit its table
 module _ (t : List ℕ) (run : ProgramGraphRun) where
   -- It answers 32.
-  pub bad_answer : (call : RunCall) → fits_table t run ≡ false → done_number (answer_to t run call) ≡ 32
+  pub bad_answer : (call : RunCall) → fits_table t run ≡ false → answer_number (answer_to t run call) ≡ 32
   unfolding transition_of wait_of send_of receive_of
-  bad_answer (transition a posts word) e = ap (λ (s : Stepped). done_number s.answer) (sym (stopped (refused 32 run) _ e))
-  bad_answer (wait delta) e = ap (λ (s : Waited). done_number s.answer) (sym (stopped (refused_wait 32 run) _ e))
-  bad_answer (send a posts word) e = ap (λ (s : Sent). done_number s.answer) (sym (stopped (refused_send 32 run) _ e))
-  bad_answer (receive a posts m) e = ap (λ (s : Received). done_number s.answer) (sym (stopped (refused_receive 32 run) _ e))
+  bad_answer (transition a posts word) e = ap (λ (s : RunOutcome). answer_number s.answer) (sym (stopped (refused 32 run) _ e))
+  bad_answer (wait delta) e = ap (λ (s : RunOutcome). answer_number s.answer) (sym (stopped (refused 32 run) _ e))
+  bad_answer (send a posts word) e = ap (λ (s : Sent). answer_number s.answer) (sym (stopped (refused_send 32 run) _ e))
+  bad_answer (receive a posts m) e = ap (λ (s : RunOutcome). answer_number s.answer) (sym (stopped (refused 32 run) _ e))
 
   -- so it gives back the run
   pub bad_returns : (call : RunCall) → fits_table t run ≡ false → run_after t run call ≡ run
-  bad_returns call e = call_refused t run call (λ (k : Ok (answer_to t run call)). omega (arith, k.number, bad_answer call e))
+  bad_returns call e = call_refused t run call (λ (k : Accepted (answer_to t run call)). omega (arith, k.number, bad_answer call e))
 
   -- whatever is so of a run, and of what every call makes of one that fits, is so after a call
   pub call_either : (P : ProgramGraphRun → Type 0) (call : RunCall) → P run → (fits_table t run ≡ true → P (run_after t run call))

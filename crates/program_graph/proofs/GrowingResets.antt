@@ -1,4 +1,6 @@
 -- A reset that is added counts from then on: no later building call takes it away.
+use Rattle.graph_tables.specs.Answers.{Answer}
+use Rattle.std.specs.Prelude.{⊤}
 use Prim.Native.Nat.{ℕ, zero, suc, ◌<◌}
 use mathlib.Core.Path.{◌≡◌, sym, ap, subst}
 use mathlib.Core.Logic.{◌≢◌, inl, inr, ⊎_elim}
@@ -12,7 +14,6 @@ use Rattle.laws.proofs.BelowLaws.{and_rest, and_both}
 use Rattle.graph_tables.specs.Words.{action_count, reset_count, reset_at, epsilon}
 use Rattle.graph_tables.specs.Formed.{well_formed}
 use Rattle.graph_tables.specs.Sound.{Sound}
-use Rattle.graph_tables.specs.declared.answers.Done.{Done}
 use Rattle.graph_tables.proofs.NumberLaws.{above_ok}
 use Rattle.graph_tables.proofs.SoundLaws.{sound}
 use Rattle.graph_tables.proofs.KeptLaws.{Formed, apart}
@@ -89,7 +90,7 @@ module _ (t : List ℕ) (a c : ℕ) (formed : well_formed t true ≡ true) where
   pub reset_added : is_accepted (add_reset_of t a c).answer ≡ true → (a < action_count t) × (resets_clock (after t (add_reset a c)) a c ≡ true)
   unfolding add_reset_of
   reset_added =
-      done_if_lem (λ (o : Outcome Done). is_accepted o.answer ≡ true → (a < action_count t) × (resets_clock o.table a c ≡ true))
+      done_if_lem (λ (o : Outcome (Answer ⊤)). is_accepted o.answer ≡ true → (a < action_count t) × (resets_clock o.table a c ≡ true))
       (reset_check t a c) t (with_reset t a c)
       (λ r q. absurd (above_ok r (eqb-true _ _ q)))
       (λ e q.

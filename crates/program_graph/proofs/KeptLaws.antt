@@ -24,15 +24,12 @@ use Rattle.run_steps.specs.Messages.{taken_of}
 use Rattle.run_steps.proofs.StepLaws.{set_keeps, post_known_lem, fits_at, shifted_at, placed_at}
 use Rattle.run_steps.proofs.MessageLaws.{taken_fits}
 use Rattle.program_graph.specs.Running.{place_known, var_fits, counts_same, run_formed, refused, ready_still, moved_to, autonomous_of}
-use Rattle.program_graph.specs.Running.{plain_of, acted_of, step_of, refused_wait, wait_fits, later, waited_of}
-use Rattle.program_graph.specs.Messaging.{refused_send, said_of, sent_of, refused_receive, heard_of, received_of}
+use Rattle.program_graph.specs.Running.{plain_of, acted_of, step_of, wait_fits, later, waited_of}
+use Rattle.program_graph.specs.Messaging.{refused_send, said_of, sent_of, heard_of, received_of}
 use Rattle.program_graph.specs.Inner.{run_at, Leaves}
 use Rattle.program_graph.specs.Fits.{RunKept}
 use Rattle.program_graph.specs.declared.record.ProgramGraphRun.{ProgramGraphRun}
-use Rattle.program_graph.specs.declared.answers.Stepped.{Stepped}
-use Rattle.program_graph.specs.declared.answers.Waited.{Waited}
-use Rattle.program_graph.specs.declared.answers.Sent.{Sent}
-use Rattle.program_graph.specs.declared.answers.Received.{Received}
+use Rattle.program_graph.specs.Outcomes.{RunOutcome, Sent}
 use Rattle.program_graph.proofs.WordLaws.{places_length, vars_length, times_length}
 use Rattle.program_graph.proofs.RunLaws.{same_variables, same_clocks, few_processes, few_clocks, either_way}
 use Rattle.program_graph.proofs.RunReady.{ready_exactly}
@@ -102,7 +99,7 @@ module _ (t : List ℕ) (run : ProgramGraphRun) (sound : Sound t) (good : Good t
   abbrev fitting : all_below (variable_count t) (var_fits t run.vars) ≡ true
   fitting = vars_fit t run sound formed room
 
-  abbrev Steps : Stepped → Type 0
+  abbrev Steps : RunOutcome → Type 0
   Steps s = Good t s.run
 
   -- a move that leaves variables and clocks
@@ -159,12 +156,12 @@ module _ (t : List ℕ) (run : ProgramGraphRun) (sound : Sound t) (good : Good t
   receive_good : (a : ℕ) (posts : List ℕ) (m : Message) → Good t (received_of t run a posts m).run
   unfolding received_of heard_of var_fits
   receive_good a posts m =
-      let P : Received → Type 0 = λ s. Good t s.run in
-      rung P _ (refused_receive 15 run) _ good
-      (λ n. rung P _ (refused_receive 7 run) _ good
-      (λ e. rung P _ (refused_receive 8 run) _ good
-      (λ r. rung P _ (refused_receive 15 run) _ good
-      (λ k. rung P _ (refused_receive 5 run) _ good
+      let P : RunOutcome → Type 0 = λ s. Good t s.run in
+      rung P _ (refused 15 run) _ good
+      (λ n. rung P _ (refused 7 run) _ good
+      (λ e. rung P _ (refused 8 run) _ good
+      (λ r. rung P _ (refused 15 run) _ good
+      (λ k. rung P _ (refused 5 run) _ good
       (λ f. heard a posts m
       (all_kept (var_fits t run.vars) (var_fits t (taken_of t a m run.vars)) (variable_count t)
       (λ i l g. taken_fits t a m run.vars i f g) fitting)
@@ -182,9 +179,9 @@ module _ (t : List ℕ) (run : ProgramGraphRun) (sound : Sound t) (good : Good t
   waited_good : (delta : ℕ) → Good t (waited_of t run delta).run
   unfolding waited_of
   waited_good delta =
-      let P : Waited → Type 0 = λ s. Good t s.run in
-      rung P _ (refused_wait 26 run) _ good
-      (λ f. rung P _ (refused_wait 9 run) _ good
+      let P : RunOutcome → Type 0 = λ s. Good t s.run in
+      rung P _ (refused 26 run) _ good
+      (λ f. rung P _ (refused 9 run) _ good
       (λ h. later_good delta f))
 
 -- ---- the words that a call leaves

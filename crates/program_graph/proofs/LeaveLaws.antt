@@ -6,6 +6,8 @@ use mathlib.Core.List.{List}
 use native.Mathlib.Omega.{arith}
 use lib.ListN.{length, get_or, take, drop}
 use lib.Seq.{get_or-take}
+use Rattle.std.specs.Prelude.{Err}
+use Rattle.graph_tables.specs.Refusals.{refusal}
 use borrow.Author.Tests.{eqb-true, ltb-true}
 use Rattle.laws.specs.Ladder.{unless}
 use Rattle.laws.specs.Below.{all_below}
@@ -27,7 +29,8 @@ use Rattle.run_steps.proofs.AgreeLaws.{ready_places, hold_places}
 use Rattle.run_steps.proofs.UsedLaws.{used_at, waiting_same, shared_entries_same, listing_same}
 use Rattle.run_steps.proofs.VarLaws.{vars_same, left_back}
 use Rattle.program_graph.specs.Running.{place_known, counts_same, run_formed, moved_to}
-use Rattle.program_graph.specs.Inner.{run_at, RunOf, Leaves, Parts, Effects}
+use Rattle.program_graph.specs.Inner.{run_at, RunOf, Leaves, DidSend, Parts, Effects}
+use Rattle.program_graph.specs.Messaging.{refused_send}
 use Rattle.program_graph.specs.declared.record.ProgramGraphRun.{ProgramGraphRun}
 use Rattle.program_graph.proofs.PartLaws.{anew}
 use Rattle.program_graph.proofs.WordLaws.{vars_length, vars_anew, used_length, parts_run, laid}
@@ -69,6 +72,10 @@ few_clocks t r sound h = omega (arith, clocks_same t (run_at r) h.formed, sound.
 -- ---- words left
 pub leaves_same : (t r : List ℕ) → RunOf t r → Leaves t r (run_at r) r
 leaves_same t r h = record { words = h.words; reads = refl; used = h.used; spare = refl }
+
+-- a send that is refused says nothing and leaves every word
+pub unsaid : (t r : List ℕ) → RunOf t r → (n : ℕ) → DidSend t r (Err (refusal n)) r (refused_send n (run_at r))
+unsaid t r h n = record { answer = refl; message = refl; words = leaves_same t r h }
 
 -- the parts afterwards make the run
 pub leaves_parts :

@@ -16,7 +16,7 @@ use Rattle.graph_tables.specs.Formed.{well_formed, counts_formed, started_of, pa
 use Rattle.graph_tables.specs.Formed.{limits_formed, location_formed, zero_inside, process_formed, reset_formed, resets_formed, effect_formed}
 use Rattle.graph_tables.specs.Formed.{effect_draws, plain_formed, action_formed, action_known, key_formed, guard_formed, transition_formed}
 use Rattle.graph_edits.specs.Edits.{with_limit, with_limits, with_expression, with_row, with_group, with_guard, transition_at}
-use Rattle.graph_checks.specs.Checks.{◌then◌, var_check, clock_check, action_check, clock_known, clocks_known, starts_inside, all_start_inside}
+use Rattle.graph_checks.specs.Checks.{var_check, clock_check, action_check, clock_known, clocks_known, starts_inside, all_start_inside}
 use Rattle.graph_checks.specs.Checks.{limits_check, location_check, start_check, initial_check, plain_check, room_for_reset, reset_check}
 use Rattle.graph_checks.specs.Checks.{room_for_effect, assigned_check, action_effect_check, known_effect_check, effect_check, ends_check, guard_room}
 use Rattle.graph_checks.specs.Checks.{conditions_check, transition_check}
@@ -40,7 +40,7 @@ unfolding
     process_formed reset_formed resets_formed effect_formed effect_draws plain_formed action_formed action_known key_formed guard_formed
     transition_formed with_limit with_limits with_expression with_row with_group with_guard transition_at clock_known clocks_known
     starts_inside all_start_inside
-    ◌then◌ var_check clock_check action_check limits_check location_check start_check initial_check plain_check room_for_reset reset_check
+    var_check clock_check action_check limits_check location_check start_check initial_check plain_check room_for_reset reset_check
     room_for_effect assigned_check action_effect_check known_effect_check effect_check ends_check guard_room conditions_check transition_check
     limit_holds limits_hold invariants_hold guard_holds passes_of leaves_by leads_of process_ready ready_of reset_below effect_next
     effects_below placed_below post_known clock_fits shifted_below place_holds

@@ -1,4 +1,6 @@
 -- A call on a run and on its words have one answer: variables that the table does not have make no difference, and come back as they were.
+use Rattle.graph_tables.specs.Answers.{Answer}
+use Rattle.std.specs.Prelude.{Err, ⊤}
 use Prim.Native.Nat.{ℕ, ◌<◌, ◌≤◌}
 use mathlib.Core.Path.{◌≡◌, refl, sym, ap, ◌∙◌, subst}
 use mathlib.Core.Bool.{Bool, true, false, cond}
@@ -15,7 +17,6 @@ use Rattle.graph_tables.specs.Sizes.{variable_room, plain_kind, send_kind, recei
 use Rattle.graph_tables.specs.Words.{variable_count, action_count, action_kind, effect_count, epsilon}
 use Rattle.graph_tables.specs.Sound.{Sound}
 use Rattle.graph_tables.specs.Refusals.{refusal}
-use Rattle.graph_tables.specs.declared.answers.Done.{Done}
 use Rattle.graph_tables.specs.declared.handed.Message.{Message}
 use Rattle.run_steps.specs.Steps.{effected_of, unchanged}
 use Rattle.run_steps.specs.Messages.{taken_of, message_of}
@@ -28,10 +29,7 @@ use Rattle.program_graph.specs.Running.{run_formed, autonomous_of, plain_of, act
 use Rattle.program_graph.specs.Messaging.{said_of, sent_of, heard_of, received_of}
 use Rattle.program_graph.specs.Inner.{over_below, with_vars, over}
 use Rattle.program_graph.specs.declared.record.ProgramGraphRun.{ProgramGraphRun}
-use Rattle.program_graph.specs.declared.answers.Stepped.{Stepped}
-use Rattle.program_graph.specs.declared.answers.Waited.{Waited}
-use Rattle.program_graph.specs.declared.answers.Sent.{Sent}
-use Rattle.program_graph.specs.declared.answers.Received.{Received}
+use Rattle.program_graph.specs.Outcomes.{RunOutcome, Sent}
 use Rattle.program_graph.proofs.StoredLaws.{over_is}
 use Rattle.program_graph.proofs.LeaveLaws.{variables_same}
 
@@ -51,7 +49,7 @@ both_conds P true x y u v h k = h
 both_conds P false x y u v h k = k
 
 -- an answer and a run, the one of a run with other variables, and the other of the run itself
-pub record Same (run : ProgramGraphRun) (a b : Done) (x y : ProgramGraphRun) : Type 0 where
+pub record Same (run : ProgramGraphRun) (a b : Answer ⊤) (x y : ProgramGraphRun) : Type 0 where
   pub answer : a ≡ b
   pub back : over run x ≡ y
 
@@ -89,11 +87,11 @@ module _ (t : List ℕ) (run : ProgramGraphRun) (vs : List Slot) (sound : Sound 
         clocks = run.clocks;
       }
 
-  refused_same : (n : ℕ) → Same run (Done.Refused (refusal n)) (Done.Refused (refusal n)) other run
+  refused_same : (n : ℕ) → Same run (Err (refusal n)) (Err (refusal n)) other run
   refused_same n = record { answer = refl; back = ap (made run.places run.times) still }
 
   -- ---- steps
-  abbrev Steps : Stepped → Stepped → Type 0
+  abbrev Steps : RunOutcome → RunOutcome → Type 0
   Steps x y = Same run x.answer y.answer x.run y.run
 
   autonomous_same : (posts : List ℕ) → Steps (autonomous_of t other posts) (autonomous_of t run posts)
@@ -133,7 +131,7 @@ module _ (t : List ℕ) (run : ProgramGraphRun) (vs : List Slot) (sound : Sound 
       both_conds Steps (eqb a epsilon) _ _ _ _ (autonomous_same posts) (acted_same a posts word)))
 
   -- ---- waits
-  abbrev Waits : Waited → Waited → Type 0
+  abbrev Waits : RunOutcome → RunOutcome → Type 0
   Waits x y = Same run x.answer y.answer x.run y.run
 
   pub wait_same : (delta : ℕ) → Waits (waited_of t other delta) (waited_of t run delta)
@@ -168,7 +166,7 @@ module _ (t : List ℕ) (run : ProgramGraphRun) (vs : List Slot) (sound : Sound 
       both_rungs Sends refl _ _ _ _ (record { message = refl; rest = refused_same 14 }) (λ h.
       said_same a posts word (ltb-true a (action_count t) (and_first _ _ h)) (eqb-true (action_kind t a) send_kind (and_rest _ _ h))))))
 
-  abbrev Receives : Received → Received → Type 0
+  abbrev Receives : RunOutcome → RunOutcome → Type 0
   Receives x y = Same run x.answer y.answer x.run y.run
 
   heard_same : (a : ℕ) (posts : List ℕ) (m : Message) → a < action_count t → action_kind t a ≡ receive_kind

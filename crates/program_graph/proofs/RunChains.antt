@@ -20,18 +20,14 @@ use Rattle.graph_tables.specs.Formed.{well_formed}
 use Rattle.graph_tables.specs.Sound.{Sound}
 use Rattle.graph_tables.proofs.SoundLaws.{sound}
 use Rattle.run_steps.proofs.AnyLaws.{any_some, any_found}
-use Rattle.program_graph.specs.Facts.{Sized, Ok, Not, InvariantsAt, Holding}
-use Rattle.program_graph.specs.Running.{refused, refused_wait, fits_table, autonomous_of, plain_of, acted_of, step_of, transition_of}
+use Rattle.program_graph.specs.Facts.{Sized, Accepted, Not, InvariantsAt, Holding}
+use Rattle.program_graph.specs.Running.{refused, fits_table, autonomous_of, plain_of, acted_of, step_of, transition_of}
 use Rattle.program_graph.specs.Running.{waited_of, wait_of, fresh_run, new_run_of}
-use Rattle.program_graph.specs.Messaging.{refused_send, refused_receive, said_of, sent_of, send_of, heard_of, received_of, receive_of}
+use Rattle.program_graph.specs.Messaging.{refused_send, said_of, sent_of, send_of, heard_of, received_of, receive_of}
 use Rattle.program_graph.specs.RunChains.{RunCall, transition, wait, send, receive, answer_to, run_after, run_after_all, is_accepted}
 use Rattle.program_graph.specs.RunChains.{reset_is, resets_clock, time_on, since_reset}
 use Rattle.program_graph.specs.declared.record.ProgramGraphRun.{ProgramGraphRun}
-use Rattle.program_graph.specs.declared.answers.Stepped.{Stepped}
-use Rattle.program_graph.specs.declared.answers.Fresh.{Fresh}
-use Rattle.program_graph.specs.declared.answers.Waited.{Waited}
-use Rattle.program_graph.specs.declared.answers.Sent.{Sent}
-use Rattle.program_graph.specs.declared.answers.Received.{Received}
+use Rattle.program_graph.specs.Outcomes.{RunOutcome, Sent}
 use Rattle.program_graph.proofs.RunLaws.{chosen, left_over, either_way}
 use Rattle.program_graph.proofs.RunKept.{transition_keeps, wait_keeps, send_keeps, receive_keeps, fresh_fits, start_at}
 use Rattle.program_graph.proofs.AnswerLaws.{answered, skip}
@@ -50,14 +46,14 @@ module _ (t : List ℕ) (run : ProgramGraphRun) where
   call_keeps (receive a posts m) = receive_keeps t run a posts m
 
   -- A refused call gives back the run.
-  pub call_refused : (call : RunCall) → (Ok (answer_to t run call) → ⊥) → run_after t run call ≡ run
+  pub call_refused : (call : RunCall) → (Accepted (answer_to t run call) → ⊥) → run_after t run call ≡ run
   call_refused (transition a posts word) n = transition_refused t run a posts word n
   call_refused (wait delta) n = wait_refused t run delta n
   call_refused (send a posts word) n = (send_refused t run a posts word n).0
   call_refused (receive a posts m) n = receive_refused t run a posts m n
 
   -- After an accepted call the invariants of every occupied location hold.
-  pub accepted_holds : (call : RunCall) → Ok (answer_to t run call) → Sized run → Holding t (run_after t run call)
+  pub accepted_holds : (call : RunCall) → Accepted (answer_to t run call) → Sized run → Holding t (run_after t run call)
   accepted_holds (transition a posts word) e z = step_holds t run posts word a e z
   accepted_holds (wait delta) e z = wait_holds_lem t run delta e
   accepted_holds (send a posts word) e z = send_holds t run a posts word e z
@@ -70,12 +66,12 @@ module _ (t : List ℕ) (run : ProgramGraphRun) where
       (λ n. subst (λ (x : ProgramGraphRun). Holding t x) (sym (call_refused call n)) h)
 
   -- a step resets the clocks that it says
-  step_clock : (a : ℕ) (posts : List ℕ) (word c : ℕ) → Ok (transition_of t run a posts word).answer → Sized run
+  step_clock : (a : ℕ) (posts : List ℕ) (word c : ℕ) → Accepted (transition_of t run a posts word).answer → Sized run
       → get_or (transition_of t run a posts word).run.times c 0 ≡ cond (resets_clock t a c) 0 (get_or run.times c 0)
   unfolding resets_clock reset_is ◌and◌
   step_clock a posts word c = by (ℕ_discrete a epsilon)
     where
-      by : Dec (a ≡ epsilon) → Ok (transition_of t run a posts word).answer → Sized run
+      by : Dec (a ≡ epsilon) → Accepted (transition_of t run a posts word).answer → Sized run
           → get_or (transition_of t run a posts word).run.times c 0 ≡ cond (resets_clock t a c) 0 (get_or run.times c 0)
       by (yes q) = rw q (λ e z. ap (λ (x : List ℕ). get_or x c 0) (autonomous_still t run posts word e).1)
       by (no n) = λ e z.
@@ -89,7 +85,7 @@ module _ (t : List ℕ) (run : ProgramGraphRun) where
           never (sym r ∙ and_both (ap not (ne_eqb a epsilon n)) (any_found (reset_is t a c) (reset_count t a) i l (eq-eqb _ _ q)))))
 
   -- an accepted call moves a clock as it says
-  accepted_clock : (call : RunCall) (c : ℕ) → Ok (answer_to t run call) → Sized run → c < clock_count t
+  accepted_clock : (call : RunCall) (c : ℕ) → Accepted (answer_to t run call) → Sized run → c < clock_count t
       → get_or (run_after t run call).times c 0 ≡ time_on t c call (get_or run.times c 0)
   accepted_clock (transition a posts word) c e z l = step_clock a posts word c e z
   accepted_clock (wait delta) c e z l = wait_moves t run delta e z c l
@@ -112,21 +108,21 @@ module _ (t : List ℕ) (run : ProgramGraphRun) where
   pub call_known : (call : RunCall) → fits_table t run ≡ true → Not 32 (answer_to t run call)
   unfolding transition_of step_of autonomous_of acted_of plain_of wait_of waited_of send_of sent_of said_of receive_of received_of heard_of
   call_known (transition a posts word) f =
-      subst (λ (s : Stepped). Not 32 s.answer) (passed (refused 32 run) f refl)
-      (skip (λ (s : Stepped). s.answer) 32 _ (refused 7 run) _ (λ e. omega arith)
-      (skip (λ (s : Stepped). s.answer) 32 _ (refused 3 run) _ (λ e. omega arith)
-      (either_way (λ (s : Stepped). Not 32 s.answer) (eqb a epsilon) _ _
-      (λ q. skip (λ (s : Stepped). s.answer) 32 _ (refused 8 run) _ (λ e. omega arith)
+      subst (λ (s : RunOutcome). Not 32 s.answer) (passed (refused 32 run) f refl)
+      (skip (λ (s : RunOutcome). s.answer) 32 _ (refused 7 run) _ (λ e. omega arith)
+      (skip (λ (s : RunOutcome). s.answer) 32 _ (refused 3 run) _ (λ e. omega arith)
+      (either_way (λ (s : RunOutcome). Not 32 s.answer) (eqb a epsilon) _ _
+      (λ q. skip (λ (s : RunOutcome). s.answer) 32 _ (refused 8 run) _ (λ e. omega arith)
       (λ e. omega arith))
-      (λ q. skip (λ (s : Stepped). s.answer) 32 _ (refused 1 run) _ (λ e. omega arith)
-      (skip (λ (s : Stepped). s.answer) 32 _ (refused 13 run) _ (λ e. omega arith)
-      (skip (λ (s : Stepped). s.answer) 32 _ (refused 8 run) _ (λ e. omega arith)
-      (skip (λ (s : Stepped). s.answer) 32 _ (refused 26 run) _ (λ e. omega arith)
+      (λ q. skip (λ (s : RunOutcome). s.answer) 32 _ (refused 1 run) _ (λ e. omega arith)
+      (skip (λ (s : RunOutcome). s.answer) 32 _ (refused 13 run) _ (λ e. omega arith)
+      (skip (λ (s : RunOutcome). s.answer) 32 _ (refused 8 run) _ (λ e. omega arith)
+      (skip (λ (s : RunOutcome). s.answer) 32 _ (refused 26 run) _ (λ e. omega arith)
       (λ e. omega arith))))))))
   call_known (wait delta) f =
-      subst (λ (s : Waited). Not 32 s.answer) (passed (refused_wait 32 run) f refl)
-      (skip (λ (s : Waited). s.answer) 32 _ (refused_wait 26 run) _ (λ e. omega arith)
-      (skip (λ (s : Waited). s.answer) 32 _ (refused_wait 9 run) _ (λ e. omega arith)
+      subst (λ (s : RunOutcome). Not 32 s.answer) (passed (refused 32 run) f refl)
+      (skip (λ (s : RunOutcome). s.answer) 32 _ (refused 26 run) _ (λ e. omega arith)
+      (skip (λ (s : RunOutcome). s.answer) 32 _ (refused 9 run) _ (λ e. omega arith)
       (λ e. omega arith)))
   call_known (send a posts word) f =
       subst (λ (s : Sent). Not 32 s.answer) (passed (refused_send 32 run) f refl)
@@ -137,12 +133,12 @@ module _ (t : List ℕ) (run : ProgramGraphRun) where
       (skip (λ (s : Sent). s.answer) 32 _ (refused_send 26 run) _ (λ e. omega arith)
       (λ e. omega arith))))))
   call_known (receive a posts m) f =
-      subst (λ (s : Received). Not 32 s.answer) (passed (refused_receive 32 run) f refl)
-      (skip (λ (s : Received). s.answer) 32 _ (refused_receive 15 run) _ (λ e. omega arith)
-      (skip (λ (s : Received). s.answer) 32 _ (refused_receive 7 run) _ (λ e. omega arith)
-      (skip (λ (s : Received). s.answer) 32 _ (refused_receive 8 run) _ (λ e. omega arith)
-      (skip (λ (s : Received). s.answer) 32 _ (refused_receive 15 run) _ (λ e. omega arith)
-      (skip (λ (s : Received). s.answer) 32 _ (refused_receive 5 run) _ (λ e. omega arith)
+      subst (λ (s : RunOutcome). Not 32 s.answer) (passed (refused 32 run) f refl)
+      (skip (λ (s : RunOutcome). s.answer) 32 _ (refused 15 run) _ (λ e. omega arith)
+      (skip (λ (s : RunOutcome). s.answer) 32 _ (refused 7 run) _ (λ e. omega arith)
+      (skip (λ (s : RunOutcome). s.answer) 32 _ (refused 8 run) _ (λ e. omega arith)
+      (skip (λ (s : RunOutcome). s.answer) 32 _ (refused 15 run) _ (λ e. omega arith)
+      (skip (λ (s : RunOutcome). s.answer) 32 _ (refused 5 run) _ (λ e. omega arith)
       (λ e. omega arith))))))
 
 -- ---- a chain, from a run that is one of its table's
@@ -174,7 +170,7 @@ module _ (t : List ℕ) (formed : well_formed t false ≡ true) where
   -- it is the fresh run
   fresh : fresh_run t ≡ (new_run_of t).run
   unfolding new_run_of
-  fresh = ap (λ (s : Fresh). s.run) (passed _ formed refl)
+  fresh = ap (λ (s : RunOutcome). s.run) (passed _ formed refl)
 
   -- whose clocks are all 0
   pub zero_clock : (c : ℕ) → get_or (new_run_of t).run.times c 0 ≡ 0

@@ -1,4 +1,5 @@
 -- When a call on a run is accepted, and when it answers each of its last numbers: exactly when.
+use Rattle.std.specs.Prelude.{⊤}
 use Prim.Native.Nat.{ℕ, zero, suc, ◌<◌}
 use mathlib.Core.Path.{◌≡◌, refl, sym, ap, subst, ◌∙◌}
 use mathlib.Core.Bool.{Bool, true, false, cond}
@@ -13,23 +14,20 @@ use Rattle.laws.specs.Below.{all_below}
 use Rattle.laws.proofs.Tests.{never}
 use Rattle.grammar.specs.Evaluation.{evaluation_of}
 use Rattle.grammar.specs.declared.values.Slot.{Slot}
-use Rattle.grammar.specs.declared.evaluation.Evaluated.{Evaluated}
-use Rattle.grammar.specs.declared.evaluation.Evaluated.TheVariants.{Known, NoValue}
-use Rattle.graph_tables.specs.Answers.{done_number}
+use Rattle.std.specs.Prelude.{Option, Some, None}
+use Rattle.grammar.specs.declared.values.Val.{Val}
+use Rattle.graph_tables.specs.Answers.{Answer, answer_number}
 use Rattle.graph_tables.specs.Sizes.{plain_kind, send_kind, receive_kind}
 use Rattle.graph_tables.specs.Words.{action_count, action_kind, effect_count, effect_var, effect_items, epsilon}
-use Rattle.graph_tables.specs.declared.answers.Done.{Done}
 use Rattle.graph_tables.specs.declared.handed.Message.{Message}
 use Rattle.run_steps.specs.Steps.{is_kind, clocks_after, Effected, assigned, unchanged, effects_below, effected_of, post_known}
 use Rattle.run_steps.specs.Messages.{spoken_of, message_fits}
 use Rattle.run_steps.proofs.StepLaws.{next_runs, effects_fit}
-use Rattle.program_graph.specs.Facts.{Ok, Not, AllPass, StepAsked, PlainAsked, MessageAsked, Valued, EffectsValued}
+use Rattle.program_graph.specs.Facts.{Accepted, Not, AllPass, StepAsked, PlainAsked, MessageAsked, Valued, EffectsValued}
 use Rattle.program_graph.specs.Running.{refused, fits_table, ready_still, autonomous_of, plain_of, acted_of, step_of, transition_of}
-use Rattle.program_graph.specs.Messaging.{refused_send, refused_receive, said_of, send_of, heard_of, receive_of}
+use Rattle.program_graph.specs.Messaging.{refused_send, said_of, send_of, heard_of, receive_of}
 use Rattle.program_graph.specs.declared.record.ProgramGraphRun.{ProgramGraphRun}
-use Rattle.program_graph.specs.declared.answers.Stepped.{Stepped}
-use Rattle.program_graph.specs.declared.answers.Sent.{Sent}
-use Rattle.program_graph.specs.declared.answers.Received.{Received}
+use Rattle.program_graph.specs.Outcomes.{RunOutcome, Sent}
 use Rattle.program_graph.proofs.RunLaws.{left_over}
 use Rattle.program_graph.proofs.AnswerLaws.{accepted_ok, not_ok}
 use Rattle.program_graph.proofs.RunReady.{through, step_asked, all_pass, reached_autonomous, reached_plain, reached_send}
@@ -45,9 +43,9 @@ not_so true f = (λ e a. never (sym e), λ n. absurd (n (f.0 refl)))
 not_so false f = (λ e a. never (f.1 a), λ n. refl)
 
 -- ---- a rung
-module _ {A : Type 0} (answer : A → Done) (b : Bool) (x rest : A) where
+module _ {A : Type 0} (answer : A → Answer ⊤) (b : Bool) (x rest : A) where
   -- its refusal is not this answer: the rung answers so exactly when it is passed and the rest does
-  passes_on : (P : Done → Type 0) {Q : Type 0} → (P (answer x) → ⊥) → P (answer rest) ↔ Q → P (answer (unless b x rest)) ↔ ((b ≡ true) × Q)
+  passes_on : (P : Answer ⊤ → Type 0) {Q : Type 0} → (P (answer x) → ⊥) → P (answer rest) ↔ Q → P (answer (unless b x rest)) ↔ ((b ≡ true) × Q)
   unfolding unless
   passes_on P = by b
     where
@@ -56,7 +54,7 @@ module _ {A : Type 0} (answer : A → Done) (b : Bool) (x rest : A) where
       by false n f = (λ p. absurd (n p), λ q. never q.0)
 
   -- its refusal is this answer, and the rest is not: exactly when it is not passed
-  stops_here : (P : Done → Type 0) → P (answer x) → (P (answer rest) → ⊥) → P (answer (unless b x rest)) ↔ (b ≡ false)
+  stops_here : (P : Answer ⊤ → Type 0) → P (answer x) → (P (answer rest) → ⊥) → P (answer (unless b x rest)) ↔ (b ≡ false)
   unfolding unless
   stops_here P = by b
     where
@@ -65,7 +63,7 @@ module _ {A : Type 0} (answer : A → Done) (b : Bool) (x rest : A) where
       by false p n = (λ q. refl, λ e. p)
 
   -- neither is
-  neither : (P : Done → Type 0) → (P (answer x) → ⊥) → (P (answer rest) → ⊥) → P (answer (unless b x rest)) → ⊥
+  neither : (P : Answer ⊤ → Type 0) → (P (answer x) → ⊥) → (P (answer rest) → ⊥) → P (answer (unless b x rest)) → ⊥
   unfolding unless
   neither P = by b
     where
@@ -81,21 +79,21 @@ only_first : {A : Type 0} → (A × Unit {0}) ↔ A
 only_first = (λ p. p.0, λ a. (a, tt))
 
 -- it answers this number
-abbrev Answers : ℕ → Done → Type 0
-Answers n d = done_number d ≡ n
+abbrev Answers : ℕ → Answer ⊤ → Type 0
+Answers n d = answer_number d ≡ n
 
 -- ---- effects that all have a value
-known_so : (e : Evaluated) → Valued e → (s : Effected) (v rest : ℕ) → (assigned s v e rest).fits ≡ s.fits
-known_so (Known x) k s v rest = refl
-known_so NoValue k s v rest = let z : ◌≡◌ {A = ℕ} 0 1 = cc k.1 in absurd (omega arith)
+known_so : (e : Option Val) → Valued e → (s : Effected) (v rest : ℕ) → (assigned s v e rest).fits ≡ s.fits
+known_so (Some x) k s v rest = refl
+known_so None k s v rest = let z : ◌≡◌ {A = ℕ} 0 1 = cc k.1 in absurd (omega arith)
 
-fits_from : (e : Evaluated) (s : Effected) (v rest : ℕ) → (assigned s v e rest).fits ≡ true → Valued e
-fits_from (Known x) s v rest h = (x, refl)
-fits_from NoValue s v rest h = never h
+fits_from : (e : Option Val) (s : Effected) (v rest : ℕ) → (assigned s v e rest).fits ≡ true → Valued e
+fits_from (Some x) s v rest h = (x, refl)
+fits_from None s v rest h = never h
 
 module _ (t : List ℕ) (a : ℕ) (s : Effected) where
   -- effect n in its turn
-  abbrev turn : ℕ → Evaluated
+  abbrev turn : ℕ → Option Val
   turn n = (evaluation_of (effects_below t a s n).vars (effects_below t a s n).word (effect_items t a n)).value
 
   -- what is left of the word after it
@@ -133,25 +131,25 @@ effects_valued t a vars word = (
 module _ (t : List ℕ) (run : ProgramGraphRun) (posts : List ℕ) where
   -- A step by EPSILON is accepted exactly when each process has a transition that passes, on the clocks as they are.
   pub autonomous_accepted : (word : ℕ) → StepAsked t run posts
-      → Ok (transition_of t run epsilon posts word).answer ↔ AllPass t run epsilon posts run.times
+      → Accepted (transition_of t run epsilon posts word).answer ↔ AllPass t run epsilon posts run.times
   unfolding autonomous_of
   autonomous_accepted word q =
-      subst (λ (s : Stepped). Ok s.answer ↔ AllPass t run epsilon posts run.times) (reached_autonomous t run posts word q)
-      (through (passes_on (λ (s : Stepped). s.answer) (ready_still t run epsilon posts) (refused 8 run) _ Ok not_ok (sure accepted_ok))
+      subst (λ (s : RunOutcome). Accepted s.answer ↔ AllPass t run epsilon posts run.times) (reached_autonomous t run posts word q)
+      (through (passes_on (λ (s : RunOutcome). s.answer) (ready_still t run epsilon posts) (refused 8 run) _ Accepted not_ok (sure accepted_ok))
       (through only_first (all_pass t run posts epsilon run.times)))
 
   -- A plain step is accepted exactly when each process has a transition that passes, with the clocks that the action resets at 0, and each
   -- effect has a value in its turn.
   pub plain_accepted : (a word : ℕ) → PlainAsked t run a posts
-      → Ok (transition_of t run a posts word).answer
+      → Accepted (transition_of t run a posts word).answer
       ↔ (AllPass t run a posts (clocks_after t a run.times) × EffectsValued t a run.vars word)
   unfolding plain_of
   plain_accepted a word q =
-      subst (λ (s : Stepped). Ok s.answer ↔ (AllPass t run a posts (clocks_after t a run.times) × EffectsValued t a run.vars word))
+      subst (λ (s : RunOutcome). Accepted s.answer ↔ (AllPass t run a posts (clocks_after t a run.times) × EffectsValued t a run.vars word))
       (reached_plain t run posts a word q)
       (through
-      (passes_on (λ (s : Stepped). s.answer) _ (refused 8 run) _ Ok not_ok
-      (through (passes_on (λ (s : Stepped). s.answer) _ (refused 26 run) _ Ok not_ok (sure accepted_ok)) only_first))
+      (passes_on (λ (s : RunOutcome). s.answer) _ (refused 8 run) _ Accepted not_ok
+      (through (passes_on (λ (s : RunOutcome). s.answer) _ (refused 26 run) _ Accepted not_ok (sure accepted_ok)) only_first))
       (both (all_pass t run posts a (clocks_after t a run.times)) (effects_valued t a run.vars word)))
 
   -- It answers 26 exactly when they pass and some effect has no value.
@@ -160,12 +158,12 @@ module _ (t : List ℕ) (run : ProgramGraphRun) (posts : List ℕ) where
       ↔ (AllPass t run a posts (clocks_after t a run.times) × (EffectsValued t a run.vars word → ⊥))
   unfolding plain_of
   plain_overflow a word q =
-      subst (λ (s : Stepped). Answers 26 s.answer
+      subst (λ (s : RunOutcome). Answers 26 s.answer
       ↔ (AllPass t run a posts (clocks_after t a run.times) × (EffectsValued t a run.vars word → ⊥)))
       (reached_plain t run posts a word q)
       (through
-      (passes_on (λ (s : Stepped). s.answer) _ (refused 8 run) _ (Answers 26) (λ e. omega arith)
-      (stops_here (λ (s : Stepped). s.answer) _ (refused 26 run) _ (Answers 26) refl (λ e. omega arith)))
+      (passes_on (λ (s : RunOutcome). s.answer) _ (refused 8 run) _ (Answers 26) (λ e. omega arith)
+      (stops_here (λ (s : RunOutcome). s.answer) _ (refused 26 run) _ (Answers 26) refl (λ e. omega arith)))
       (both (all_pass t run posts a (clocks_after t a run.times)) (not_so _ (effects_valued t a run.vars word))))
 
   -- It answers 8 exactly when they do not pass.
@@ -173,28 +171,28 @@ module _ (t : List ℕ) (run : ProgramGraphRun) (posts : List ℕ) where
       → Answers 8 (transition_of t run a posts word).answer ↔ (AllPass t run a posts (clocks_after t a run.times) → ⊥)
   unfolding plain_of
   plain_unsatisfied a word q =
-      subst (λ (s : Stepped). Answers 8 s.answer ↔ (AllPass t run a posts (clocks_after t a run.times) → ⊥))
+      subst (λ (s : RunOutcome). Answers 8 s.answer ↔ (AllPass t run a posts (clocks_after t a run.times) → ⊥))
       (reached_plain t run posts a word q)
       (through
-      (stops_here (λ (s : Stepped). s.answer) _ (refused 8 run) _ (Answers 8) refl
-      (neither (λ (s : Stepped). s.answer) _ (refused 26 run) _ (Answers 8) (λ e. omega arith) (λ e. omega arith)))
+      (stops_here (λ (s : RunOutcome). s.answer) _ (refused 8 run) _ (Answers 8) refl
+      (neither (λ (s : RunOutcome). s.answer) _ (refused 26 run) _ (Answers 8) (λ e. omega arith) (λ e. omega arith)))
       (not_so _ (all_pass t run posts a (clocks_after t a run.times))))
 
   -- ---- messages
   -- A send is accepted exactly when each process has a transition that passes, the action is a send, and each of its expressions has a
   -- value.
   pub send_accepted : (a word : ℕ) → MessageAsked t run a posts
-      → Ok (send_of t run a posts word).answer
+      → Accepted (send_of t run a posts word).answer
       ↔ (AllPass t run a posts run.times × ((is_kind t a send_kind ≡ true) × ((spoken_of t a run.vars word).fits ≡ true)))
   unfolding said_of
   send_accepted a word q =
-      subst (λ (s : Sent). Ok s.answer
+      subst (λ (s : Sent). Accepted s.answer
       ↔ (AllPass t run a posts run.times × ((is_kind t a send_kind ≡ true) × ((spoken_of t a run.vars word).fits ≡ true))))
       (reached_send t run posts a word q)
       (through
-      (passes_on (λ (s : Sent). s.answer) _ (refused_send 8 run) _ Ok not_ok
-      (passes_on (λ (s : Sent). s.answer) _ (refused_send 14 run) _ Ok not_ok
-      (through (passes_on (λ (s : Sent). s.answer) _ (refused_send 26 run) _ Ok not_ok (sure accepted_ok)) only_first)))
+      (passes_on (λ (s : Sent). s.answer) _ (refused_send 8 run) _ Accepted not_ok
+      (passes_on (λ (s : Sent). s.answer) _ (refused_send 14 run) _ Accepted not_ok
+      (through (passes_on (λ (s : Sent). s.answer) _ (refused_send 26 run) _ Accepted not_ok (sure accepted_ok)) only_first)))
       (both (all_pass t run posts a run.times) (λ p. p, λ p. p)))
 
   -- It answers 26 exactly when they pass, the action is a send, and an expression has no value.
@@ -227,17 +225,17 @@ module _ (t : List ℕ) (run : ProgramGraphRun) (posts : List ℕ) where
 
   -- A receive is accepted exactly when each process has a transition that passes, the action is a receive, and the message fits it.
   pub receive_accepted : (a : ℕ) (m : Message) → MessageAsked t run a posts
-      → Ok (receive_of t run a posts m).answer
+      → Accepted (receive_of t run a posts m).answer
       ↔ (AllPass t run a posts run.times × ((is_kind t a receive_kind ≡ true) × (message_fits t a m ≡ true)))
   unfolding heard_of
   receive_accepted a m q =
-      subst (λ (s : Received). Ok s.answer
+      subst (λ (s : RunOutcome). Accepted s.answer
       ↔ (AllPass t run a posts run.times × ((is_kind t a receive_kind ≡ true) × (message_fits t a m ≡ true))))
       (reached_receive t run posts a m q)
       (through
-      (passes_on (λ (s : Received). s.answer) _ (refused_receive 8 run) _ Ok not_ok
-      (passes_on (λ (s : Received). s.answer) _ (refused_receive 15 run) _ Ok not_ok
-      (through (passes_on (λ (s : Received). s.answer) _ (refused_receive 5 run) _ Ok not_ok (sure accepted_ok)) only_first)))
+      (passes_on (λ (s : RunOutcome). s.answer) _ (refused 8 run) _ Accepted not_ok
+      (passes_on (λ (s : RunOutcome). s.answer) _ (refused 15 run) _ Accepted not_ok
+      (through (passes_on (λ (s : RunOutcome). s.answer) _ (refused 5 run) _ Accepted not_ok (sure accepted_ok)) only_first)))
       (both (all_pass t run posts a run.times) (λ p. p, λ p. p)))
 
   -- It answers 5 exactly when they pass, the action is a receive, and the message does not fit it.
@@ -246,13 +244,13 @@ module _ (t : List ℕ) (run : ProgramGraphRun) (posts : List ℕ) where
       ↔ (AllPass t run a posts run.times × ((is_kind t a receive_kind ≡ true) × (message_fits t a m ≡ false)))
   unfolding heard_of
   receive_mismatch a m q =
-      subst (λ (s : Received). Answers 5 s.answer
+      subst (λ (s : RunOutcome). Answers 5 s.answer
       ↔ (AllPass t run a posts run.times × ((is_kind t a receive_kind ≡ true) × (message_fits t a m ≡ false))))
       (reached_receive t run posts a m q)
       (through
-      (passes_on (λ (s : Received). s.answer) _ (refused_receive 8 run) _ (Answers 5) (λ e. omega arith)
-      (passes_on (λ (s : Received). s.answer) _ (refused_receive 15 run) _ (Answers 5) (λ e. omega arith)
-      (stops_here (λ (s : Received). s.answer) _ (refused_receive 5 run) _ (Answers 5) refl (λ e. omega arith))))
+      (passes_on (λ (s : RunOutcome). s.answer) _ (refused 8 run) _ (Answers 5) (λ e. omega arith)
+      (passes_on (λ (s : RunOutcome). s.answer) _ (refused 15 run) _ (Answers 5) (λ e. omega arith)
+      (stops_here (λ (s : RunOutcome). s.answer) _ (refused 5 run) _ (Answers 5) refl (λ e. omega arith))))
       (both (all_pass t run posts a run.times) (λ p. p, λ p. p)))
 
   -- It answers 15 exactly when they pass and the action is no receive.
@@ -260,16 +258,16 @@ module _ (t : List ℕ) (run : ProgramGraphRun) (posts : List ℕ) where
       → Answers 15 (receive_of t run a posts m).answer ↔ (AllPass t run a posts run.times × (is_kind t a receive_kind ≡ false))
   unfolding heard_of
   receive_not_receive a m q =
-      subst (λ (s : Received). Answers 15 s.answer ↔ (AllPass t run a posts run.times × (is_kind t a receive_kind ≡ false)))
+      subst (λ (s : RunOutcome). Answers 15 s.answer ↔ (AllPass t run a posts run.times × (is_kind t a receive_kind ≡ false)))
       (reached_receive t run posts a m q)
       (through
-      (passes_on (λ (s : Received). s.answer) _ (refused_receive 8 run) _ (Answers 15) (λ e. omega arith)
-      (stops_here (λ (s : Received). s.answer) _ (refused_receive 15 run) _ (Answers 15) refl
-      (neither (λ (s : Received). s.answer) _ (refused_receive 5 run) _ (Answers 15) (λ e. omega arith) (λ e. omega arith))))
+      (passes_on (λ (s : RunOutcome). s.answer) _ (refused 8 run) _ (Answers 15) (λ e. omega arith)
+      (stops_here (λ (s : RunOutcome). s.answer) _ (refused 15 run) _ (Answers 15) refl
+      (neither (λ (s : RunOutcome). s.answer) _ (refused 5 run) _ (Answers 15) (λ e. omega arith) (λ e. omega arith))))
       (both (all_pass t run posts a run.times) (λ p. p, λ p. p)))
 
 -- ---- what is not refused before the guards
-module _ {A : Type 0} (answer : A → Done) (b : Bool) (x rest : A) where
+module _ {A : Type 0} (answer : A → Answer ⊤) (b : Bool) (x rest : A) where
   -- a rung that does not answer its own number is passed
   must_pass : (n : ℕ) → Answers n (answer x) → Not n (answer (unless b x rest)) → b ≡ true
   unfolding unless
@@ -286,7 +284,7 @@ module _ {A : Type 0} (answer : A → Done) (b : Bool) (x rest : A) where
 
 module _ (t : List ℕ) (run : ProgramGraphRun) (posts : List ℕ) (a word : ℕ) where
   -- refused neither for its run nor for its posts
-  abbrev NotBefore : Done → Type 0
+  abbrev NotBefore : Answer ⊤ → Type 0
   NotBefore d = Not 32 d × Not 7 d × Not 3 d
 
   asked_step : NotBefore (transition_of t run a posts word).answer
@@ -294,16 +292,16 @@ module _ (t : List ℕ) (run : ProgramGraphRun) (posts : List ℕ) (a word : ℕ
       × (transition_of t run a posts word ≡ cond (eqb a epsilon) (autonomous_of t run posts) (acted_of t run a posts word))
   unfolding transition_of step_of
   asked_step h =
-      let f = must_pass (λ (s : Stepped). s.answer) (fits_table t run) (refused 32 run) (step_of t run a posts word) 32 refl h.0 in
-      let e = goes_on (λ (s : Stepped). s.answer) (fits_table t run) (refused 32 run) (step_of t run a posts word) f in
-      let tail : Stepped = unless (all_below (length posts) (post_known t posts)) (refused 3 run)
+      let f = must_pass (λ (s : RunOutcome). s.answer) (fits_table t run) (refused 32 run) (step_of t run a posts word) 32 refl h.0 in
+      let e = goes_on (λ (s : RunOutcome). s.answer) (fits_table t run) (refused 32 run) (step_of t run a posts word) f in
+      let tail : RunOutcome = unless (all_below (length posts) (post_known t posts)) (refused 3 run)
       (cond (eqb a epsilon) (autonomous_of t run posts) (acted_of t run a posts word)) in
-      let o = must_pass (λ (s : Stepped). s.answer) (eqb (length posts) run.processes) (refused 7 run) tail 7 refl
-      (subst (λ (s : Stepped). Not 7 s.answer) e h.1) in
-      let g = goes_on (λ (s : Stepped). s.answer) (eqb (length posts) run.processes) (refused 7 run) tail o in
-      let k = must_pass (λ (s : Stepped). s.answer) (all_below (length posts) (post_known t posts)) (refused 3 run) _ 3 refl
-      (subst (λ (s : Stepped). Not 3 s.answer) (e ∙ g) h.2) in
-      let r = goes_on (λ (s : Stepped). s.answer) (all_below (length posts) (post_known t posts)) (refused 3 run) _ k in
+      let o = must_pass (λ (s : RunOutcome). s.answer) (eqb (length posts) run.processes) (refused 7 run) tail 7 refl
+      (subst (λ (s : RunOutcome). Not 7 s.answer) e h.1) in
+      let g = goes_on (λ (s : RunOutcome). s.answer) (eqb (length posts) run.processes) (refused 7 run) tail o in
+      let k = must_pass (λ (s : RunOutcome). s.answer) (all_below (length posts) (post_known t posts)) (refused 3 run) _ 3 refl
+      (subst (λ (s : RunOutcome). Not 3 s.answer) (e ∙ g) h.2) in
+      let r = goes_on (λ (s : RunOutcome). s.answer) (all_below (length posts) (post_known t posts)) (refused 3 run) _ k in
       (step_asked t run posts f o k, e ∙ g ∙ r)
 
   -- A plain step is refused neither for its run, its posts nor its action exactly when it answers none of 32, 7, 3, 1 and 13.
@@ -316,9 +314,9 @@ module _ (t : List ℕ) (run : ProgramGraphRun) (posts : List ℕ) (a word : ℕ
     where
       no : (n : ℕ) → (8 ≡ n → ⊥) → (26 ≡ n → ⊥) → (0 ≡ n → ⊥) → PlainAsked t run a posts → Not n (transition_of t run a posts word).answer
       no n x y z q =
-          subst (λ (s : Stepped). Not n s.answer) (reached_plain t run posts a word q)
-          (neither (λ (s : Stepped). s.answer) _ (refused 8 run) _ (Answers n) x
-          (neither (λ (s : Stepped). s.answer) _ (refused 26 run) _ (Answers n) y z))
+          subst (λ (s : RunOutcome). Not n s.answer) (reached_plain t run posts a word q)
+          (neither (λ (s : RunOutcome). s.answer) _ (refused 8 run) _ (Answers n) x
+          (neither (λ (s : RunOutcome). s.answer) _ (refused 26 run) _ (Answers n) y z))
 
       there : PlainAsked t run a posts
           → NotBefore (transition_of t run a posts word).answer
@@ -338,12 +336,12 @@ module _ (t : List ℕ) (run : ProgramGraphRun) (posts : List ℕ) (a word : ℕ
       back h =
           let q = asked_step h.0 in
           let e : transition_of t run a posts word ≡ acted_of t run a posts word = q.1 ∙ sym (left_over _ (ne_eqb a epsilon named) refl) in
-          let tail : Stepped = unless (eqb (action_kind t a) plain_kind) (refused 13 run) (plain_of t run a posts word) in
-          let l = must_pass (λ (s : Stepped). s.answer) (ltb a (action_count t)) (refused 1 run) tail 1 refl
-          (subst (λ (s : Stepped). Not 1 s.answer) e h.1.0) in
-          let g = goes_on (λ (s : Stepped). s.answer) (ltb a (action_count t)) (refused 1 run) tail l in
-          let k = must_pass (λ (s : Stepped). s.answer) (eqb (action_kind t a) plain_kind) (refused 13 run) _ 13 refl
-          (subst (λ (s : Stepped). Not 13 s.answer) (e ∙ g) h.1.1) in
+          let tail : RunOutcome = unless (eqb (action_kind t a) plain_kind) (refused 13 run) (plain_of t run a posts word) in
+          let l = must_pass (λ (s : RunOutcome). s.answer) (ltb a (action_count t)) (refused 1 run) tail 1 refl
+          (subst (λ (s : RunOutcome). Not 1 s.answer) e h.1.0) in
+          let g = goes_on (λ (s : RunOutcome). s.answer) (ltb a (action_count t)) (refused 1 run) tail l in
+          let k = must_pass (λ (s : RunOutcome). s.answer) (eqb (action_kind t a) plain_kind) (refused 13 run) _ 13 refl
+          (subst (λ (s : RunOutcome). Not 13 s.answer) (e ∙ g) h.1.1) in
           record { step = q.0; action = ltb-true _ _ l; plain = eqb-true _ _ k }
 
 -- A step by EPSILON is refused neither for its run nor for its posts exactly when it answers none of 32, 7 and 3.
@@ -363,21 +361,21 @@ autonomous_asked t run posts word = (
   where
     no : (n : ℕ) → (8 ≡ n → ⊥) → (0 ≡ n → ⊥) → StepAsked t run posts → Not n (transition_of t run epsilon posts word).answer
     no n x z q =
-        subst (λ (s : Stepped). Not n s.answer) (reached_autonomous t run posts word q)
-        (neither (λ (s : Stepped). s.answer) _ (refused 8 run) _ (Answers n) x z)
+        subst (λ (s : RunOutcome). Not n s.answer) (reached_autonomous t run posts word q)
+        (neither (λ (s : RunOutcome). s.answer) _ (refused 8 run) _ (Answers n) x z)
 
 -- ---- past its guards
 -- A plain step is accepted or answers 26 exactly when each process has a transition that passes.
 pub plain_past_guards : (t : List ℕ) (run : ProgramGraphRun) (posts : List ℕ) (a word : ℕ) → PlainAsked t run a posts
-    → (Ok (transition_of t run a posts word).answer ⊎ Answers 26 (transition_of t run a posts word).answer)
+    → (Accepted (transition_of t run a posts word).answer ⊎ Answers 26 (transition_of t run a posts word).answer)
     ↔ AllPass t run a posts (clocks_after t a run.times)
 plain_past_guards t run posts a word q = (
-  λ h. ⊎_elim (λ (o : Ok (transition_of t run a posts word).answer). ((plain_accepted t run posts a word q).0 o).0)
+  λ h. ⊎_elim (λ (o : Accepted (transition_of t run a posts word).answer). ((plain_accepted t run posts a word q).0 o).0)
       (λ (n : Answers 26 (transition_of t run a posts word).answer). ((plain_overflow t run posts a word q).0 n).0) h,
   λ p. by p (effected_of t a run.vars word).fits refl,
 )
   where
     by : AllPass t run a posts (clocks_after t a run.times) → (b : Bool) → (effected_of t a run.vars word).fits ≡ b
-        → Ok (transition_of t run a posts word).answer ⊎ Answers 26 (transition_of t run a posts word).answer
+        → Accepted (transition_of t run a posts word).answer ⊎ Answers 26 (transition_of t run a posts word).answer
     by p true e = inl ((plain_accepted t run posts a word q).1 (p, (effects_valued t a run.vars word).0 e))
     by p false e = inr ((plain_overflow t run posts a word q).1 (p, λ v. never (sym e ∙ (effects_valued t a run.vars word).1 v)))

@@ -1,4 +1,6 @@
 -- Every call keeps a run one of its table's.
+use Rattle.graph_tables.specs.Answers.{admitted}
+use Rattle.std.specs.Prelude.{Err}
 use Prim.Native.Nat.{ℕ, zero, suc, ◌<◌, ◌≤◌}
 use mathlib.Core.Path.{◌≡◌, refl, sym, ap, subst, ◌∙◌}
 use mathlib.Core.Bool.{Bool, true, false, cond}
@@ -24,14 +26,12 @@ use Rattle.grammar.specs.declared.values.Val.{Val}
 use Rattle.grammar.specs.declared.values.Val.TheVariants.{Boolean, Integer}
 use Rattle.grammar.specs.declared.values.Slot.{Slot}
 use Rattle.grammar.specs.declared.evaluation.Evaluation.{Evaluation}
-use Rattle.grammar.specs.declared.evaluation.Evaluated.{Evaluated}
-use Rattle.grammar.specs.declared.evaluation.Evaluated.TheVariants.{Known, NoValue}
+use Rattle.std.specs.Prelude.{Option, Some, None}
 use Rattle.grammar.proofs.Sound.{HasKind, Of, Fit}
 use Rattle.grammar.proofs.Theorems.{typed_value}
 use Rattle.graph_tables.specs.Sizes.{process_room, variable_room, clock_room, plain_kind}
 use Rattle.graph_tables.specs.Layout.{table_words, kinds_start, kind_cell}
 use Rattle.graph_tables.specs.Refusals.{refusal}
-use Rattle.graph_tables.specs.declared.answers.Done.TheVariants as Done
 use Rattle.graph_tables.specs.Words.{variable_count, clock_count, location_count, action_count, process_count, kind_at, kinds_of, value_at, place_at}
 use Rattle.graph_tables.specs.Words.{action_kind, reset_count, effect_count, effect_var, effect_items, epsilon}
 use Rattle.graph_tables.specs.Formed.{well_formed}
@@ -45,13 +45,9 @@ use Rattle.run_steps.proofs.MessageLaws.{taken_length, taken_fits}
 use Rattle.graph_tables.specs.declared.handed.Message.{Message}
 use Rattle.program_graph.specs.Facts.{Sized}
 use Rattle.program_graph.specs.declared.record.ProgramGraphRun.{ProgramGraphRun}
-use Rattle.program_graph.specs.declared.answers.Stepped.{Stepped}
-use Rattle.program_graph.specs.declared.answers.Fresh.{Fresh}
-use Rattle.program_graph.specs.declared.answers.Waited.{Waited}
-use Rattle.program_graph.specs.declared.answers.Sent.{Sent}
-use Rattle.program_graph.specs.declared.answers.Received.{Received}
-use Rattle.program_graph.specs.Messaging.{refused_send, refused_receive, said_of, sent_of, send_of, heard_of, received_of, receive_of}
-use Rattle.program_graph.specs.Running.{refused, refused_wait, accepted_wait, place_known, var_fits, counts_same, run_formed, fits_table}
+use Rattle.program_graph.specs.Outcomes.{RunOutcome, Sent}
+use Rattle.program_graph.specs.Messaging.{refused_send, said_of, sent_of, send_of, heard_of, received_of, receive_of}
+use Rattle.program_graph.specs.Running.{refused, accepted, place_known, var_fits, counts_same, run_formed, fits_table}
 use Rattle.program_graph.specs.Running.{ready_still, moved_to, autonomous_of, plain_of, acted_of, step_of, transition_of, wait_fits}
 use Rattle.program_graph.specs.Running.{wait_holds, later, waited_of, wait_of, start_places, start_value, start_vars, fresh_run, no_run}
 use Rattle.program_graph.specs.Running.{new_run_of}
@@ -71,7 +67,7 @@ same_word (x ∷ xs) zero d e h = refl
 same_word (x ∷ xs) (suc i) d e h = same_word xs i d e (le_of_suc-le-suc h)
 
 -- a value has the kind that its own word stands for
-own_kind : (v : Val) → Of (Known v) (kinded_at (kind_word (kind_of v)))
+own_kind : (v : Val) → Of (Some v) (kinded_at (kind_word (kind_of v)))
 own_kind (Boolean b) = refl
 own_kind (Integer n) = refl
 
@@ -89,10 +85,10 @@ fit_vars t vars s h = λ n. by n (ltb n (variable_count t)) refl
         = get_or-take (variable_count t) (drop kinds_start t) n 2 l ∙ get_or-drop kinds_start t n 2 ∙ same_word t (kind_cell n) 2 0 (omega arith) in
         let x : kind_word (kind_of (get_or vars n blank).value) ≡ get_or (kinds_of t) n 2
         = eqb-true _ _ (all_at (var_fits t vars) (variable_count t) n h l) ∙ sym k in
-        let q : variable_of vars n ≡ Known (get_or vars n blank).value
-        = ap (λ (b : Bool). cond b (Known (get_or vars n blank).value) NoValue) (lt-ltb n variable_room (omega arith)) in
-        subst (λ (v : Evaluated). Of v (variable_kind (kinds_of t) n)) (sym q)
-        (subst (λ (m : ℕ). Of (Known (get_or vars n blank).value) (kinded_at m)) x (own_kind (get_or vars n blank).value))
+        let q : variable_of vars n ≡ Some (get_or vars n blank).value
+        = ap (λ (b : Bool). cond b (Some (get_or vars n blank).value) None) (lt-ltb n variable_room (omega arith)) in
+        subst (λ (v : Option Val). Of v (variable_kind (kinds_of t) n)) (sym q)
+        (subst (λ (m : ℕ). Of (Some (get_or vars n blank).value) (kinded_at m)) x (own_kind (get_or vars n blank).value))
     by n false e =
         let q : get_or (kinds_of t) n 2 ≡ 2
         = get_or-eq_default (kinds_of t) 2 (omega (arith, kinds_length t s, ltb-false n (variable_count t) e)) in
@@ -118,11 +114,11 @@ set_fits t vars v x n e l h = all_kept (var_fits t vars) (var_fits t (set vars v
         (sym (get_or-set_other vars v i (record { value = x }) blank q)) k
 
 -- one effect whose value has its variable's kind
-assigned_fits : (t : List ℕ) (s : Effected) (v : ℕ) (e : Evaluated) (rest n : ℕ) (k : Kind) → HasKind e k → kind_word k ≡ kind_at t v
+assigned_fits : (t : List ℕ) (s : Effected) (v : ℕ) (e : Option Val) (rest n : ℕ) (k : Kind) → HasKind e k → kind_word k ≡ kind_at t v
     → v < length s.vars
     → all_below n (var_fits t s.vars) ≡ true → all_below n (var_fits t (assigned s v e rest).vars) ≡ true
-assigned_fits t s v (Known x) rest n k q e l h = set_fits t s.vars v x n (ap kind_word q ∙ e) l h
-assigned_fits t s v NoValue rest n k q e l h = h
+assigned_fits t s v (Some x) rest n k q e l h = set_fits t s.vars v x n (ap kind_word q ∙ e) l h
+assigned_fits t s v None rest n k q e l h = h
 
 module _ (t : List ℕ) (sound : Sound t) (a : ℕ) (known : a < action_count t) (plain : action_kind t a ≡ plain_kind) where
   -- The effects of a plain action keep every variable of its kind.
@@ -150,10 +146,10 @@ pub wait_keeps : (t : List ℕ) (run : ProgramGraphRun) (delta : ℕ) → fits_t
     → (fits_table t (wait_of t run delta).run ≡ true) × Sized (wait_of t run delta).run
 unfolding wait_of waited_of fits_table run_formed counts_same
 wait_keeps t run delta h z =
-    let P : Waited → Type 0 = λ s. (fits_table t s.run ≡ true) × Sized s.run in
-    rung P (fits_table t run) (refused_wait 32 run) _ (h, z)
-    (λ e. rung P (wait_fits run delta) (refused_wait 26 run) _ (h, z)
-    (λ e. rung P (wait_holds t run delta) (refused_wait 9 run) (accepted_wait (later run delta)) (h, z)
+    let P : RunOutcome → Type 0 = λ s. (fits_table t s.run ≡ true) × Sized s.run in
+    rung P (fits_table t run) (refused 32 run) _ (h, z)
+    (λ e. rung P (wait_fits run delta) (refused 26 run) _ (h, z)
+    (λ e. rung P (wait_holds t run delta) (refused 9 run) (accepted (later run delta)) (h, z)
     (λ e. (h, record { places = z.places; vars = z.vars; times = shifted_length run.times delta run.clocks ∙ z.times }))))
 
 -- ---- a step
@@ -194,7 +190,7 @@ autonomous_keeps : (t : List ℕ) (run : ProgramGraphRun) (posts : List ℕ) →
     → (run_formed t (autonomous_of t run posts).run ≡ true) × Sized (autonomous_of t run posts).run
 unfolding autonomous_of
 autonomous_keeps t run posts s h z known e =
-    rung (λ (x : Stepped). Kept t x.run) _ (refused 8 run) _ (h, z)
+    rung (λ (x : RunOutcome). Kept t x.run) _ (refused 8 run) _ (h, z)
     (λ q. moved_kept t run posts run.vars run.times s h z known e (vars_fit t run h) z.vars z.times)
 
 -- so does a step by a plain action
@@ -203,7 +199,7 @@ plain_keeps : (t : List ℕ) (run : ProgramGraphRun) (a : ℕ) (posts : List ℕ
     → (run_formed t (plain_of t run a posts word).run ≡ true) × Sized (plain_of t run a posts word).run
 unfolding plain_of
 plain_keeps t run a posts word s h z l k known e =
-    let P : Stepped → Type 0 = λ x. Kept t x.run in
+    let P : RunOutcome → Type 0 = λ x. Kept t x.run in
     rung P _ (refused 8 run) _ (h, z)
     (λ q. rung P _ (refused 26 run) _ (h, z)
     (λ r. moved_kept t run posts (effected_of t a run.vars word).vars (clocks_after t a run.times) s h z known e
@@ -216,7 +212,7 @@ pub transition_keeps : (t : List ℕ) (run : ProgramGraphRun) (a : ℕ) (posts :
 unfolding transition_of step_of acted_of
 transition_keeps t run a posts word f z =
     from_kept t run (transition_of t run a posts word).run f (λ s h.
-    let P : Stepped → Type 0 = λ x. Kept t x.run in
+    let P : RunOutcome → Type 0 = λ x. Kept t x.run in
     rung P _ (refused 32 run) _ (h, z)
     (λ q. rung P _ (refused 7 run) _ (h, z)
     (λ e. rung P _ (refused 3 run) _ (h, z)
@@ -258,13 +254,13 @@ pub receive_keeps : (t : List ℕ) (run : ProgramGraphRun) (a : ℕ) (posts : Li
 unfolding receive_of received_of heard_of var_fits
 receive_keeps t run a posts m f z =
     from_kept t run (receive_of t run a posts m).run f (λ s h.
-    let P : Received → Type 0 = λ x. Kept t x.run in
-    rung P _ (refused_receive 32 run) _ (h, z)
-    (λ q. rung P _ (refused_receive 15 run) _ (h, z)
-    (λ n. rung P _ (refused_receive 7 run) _ (h, z)
-    (λ e. rung P _ (refused_receive 8 run) _ (h, z)
-    (λ r. rung P _ (refused_receive 15 run) _ (h, z)
-    (λ k. rung P _ (refused_receive 5 run) _ (h, z)
+    let P : RunOutcome → Type 0 = λ x. Kept t x.run in
+    rung P _ (refused 32 run) _ (h, z)
+    (λ q. rung P _ (refused 15 run) _ (h, z)
+    (λ n. rung P _ (refused 7 run) _ (h, z)
+    (λ e. rung P _ (refused 8 run) _ (h, z)
+    (λ r. rung P _ (refused 15 run) _ (h, z)
+    (λ k. rung P _ (refused 5 run) _ (h, z)
     (λ v. moved_kept t run posts (taken_of t a m run.vars) run.times s h z (ready_known t run a posts s r (eqb-true _ _ e))
     (eqb-true _ _ e)
     (all_kept (var_fits t run.vars) (var_fits t (taken_of t a m run.vars)) (variable_count t)
@@ -326,9 +322,9 @@ module _ (t : List ℕ) where
       = and_both (eq-eqb n n refl) (and_both (eq-eqb (variable_count t) _ refl) (eq-eqb (clock_count t) _ refl)) in
       let values : all_below (variable_count t) (var_fits t (start_vars t (variable_count t))) ≡ true
       = values_fit (variable_count t) s.counts.variables (λ v l. (s.variable v l).kind) in
-      let P : Fresh → Type 0 = λ x. (fits_table t x.run ≡ true) × Sized x.run in
-      let none : Fresh = record { answer = Done.Refused (refusal 32); run = no_run } in
-      subst (λ (b : Bool). P (unless b none (record { answer = Done.Accepted; run = fresh_run t }))) (sym h) (
+      let P : RunOutcome → Type 0 = λ x. (fits_table t x.run ≡ true) × Sized x.run in
+      let none : RunOutcome = record { answer = Err (refusal 32); run = no_run } in
+      subst (λ (b : Bool). P (unless b none (record { answer = admitted; run = fresh_run t }))) (sym h) (
         and_both h (and_both counts (and_both (all_from (place_known t (start_places t n)) n at) values)),
         record { places = start_length n; vars = values_length (variable_count t); times = refl },
       )

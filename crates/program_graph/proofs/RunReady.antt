@@ -1,4 +1,5 @@
 -- When the processes of a run are ready, and so which calls get past their guards.
+use Rattle.std.specs.Prelude.{⊤}
 use Prim.Native.Nat.{ℕ, ◌<◌, ◌≤◌}
 use mathlib.Core.Path.{◌≡◌, refl, sym, ap, subst}
 use mathlib.Core.Bool.{Bool, true, false, not}
@@ -14,7 +15,7 @@ use Rattle.laws.proofs.Ladder.{passed}
 use Rattle.laws.proofs.BelowLaws.{and_first, and_rest, and_both, all_at, all_from}
 use Rattle.laws.proofs.Tests.{never}
 use Rattle.grammar.specs.declared.values.Slot.{Slot}
-use Rattle.graph_tables.specs.Answers.{done_number}
+use Rattle.graph_tables.specs.Answers.{Answer, answer_number}
 use Rattle.graph_tables.specs.Sizes.{action_room, send_kind, receive_kind}
 use Rattle.graph_tables.specs.declared.handed.Message.{Message}
 use Rattle.graph_tables.specs.Words.{action_count, transition_count, key_of, post_of, invariant_group, epsilon}
@@ -22,14 +23,11 @@ use Rattle.run_steps.specs.Steps.{limit_holds, limits_hold, invariants_hold, pas
 use Rattle.run_steps.specs.Steps.{clocks_after, post_known}
 use Rattle.run_steps.proofs.StepLaws.{post_known_lem}
 use Rattle.run_steps.proofs.AnyLaws.{any_some, any_found}
-use Rattle.graph_tables.specs.declared.answers.Done.{Done}
 use Rattle.program_graph.specs.Facts.{InvariantsAt, Passing, AllPass, PastGuards, StepAsked, PlainAsked, MessageAsked}
 use Rattle.program_graph.specs.declared.record.ProgramGraphRun.{ProgramGraphRun}
-use Rattle.program_graph.specs.declared.answers.Stepped.{Stepped}
-use Rattle.program_graph.specs.declared.answers.Sent.{Sent}
-use Rattle.program_graph.specs.declared.answers.Received.{Received}
+use Rattle.program_graph.specs.Outcomes.{RunOutcome, Sent}
 use Rattle.program_graph.specs.Running.{refused, fits_table, ready_still, autonomous_of, plain_of, acted_of, step_of, transition_of}
-use Rattle.program_graph.specs.Messaging.{refused_send, refused_receive, said_of, sent_of, send_of, heard_of, received_of, receive_of}
+use Rattle.program_graph.specs.Messaging.{refused_send, said_of, sent_of, send_of, heard_of, received_of, receive_of}
 use Rattle.program_graph.proofs.RunLaws.{fitting, left_over}
 use Rattle.program_graph.proofs.AnswerLaws.{skip}
 
@@ -88,7 +86,7 @@ module _ (t : List ℕ) (vars : List Slot) (clocks after : List ℕ) where
 
 -- ---- which calls get past their guards
 -- a rung for the guards that fails is where a ladder stops, and one that is passed is not
-guards : {A : Type 0} (answer : A → Done) (b : Bool) (refusal rest : A) → done_number (answer refusal) ≡ 8
+guards : {A : Type 0} (answer : A → Answer ⊤) (b : Bool) (refusal rest : A) → answer_number (answer refusal) ≡ 8
     → PastGuards (answer rest) → PastGuards (answer (unless b refusal rest)) ↔ (b ≡ true)
 unfolding unless
 guards answer true refusal rest e n = (λ k. refl, λ q. n)
@@ -137,8 +135,8 @@ module _ (t : List ℕ) (run : ProgramGraphRun) (posts : List ℕ) where
   reached_send a word q = passed _ q.fits (passed _ (ap not (ne_eqb a epsilon q.named)) (passed _ (eq-eqb _ _ q.one_each) refl))
 
   pub reached_receive : (a : ℕ) (m : Message) → MessageAsked t run a posts
-      → unless (ready_still t run a posts) (refused_receive 8 run)
-      (unless (is_kind t a receive_kind) (refused_receive 15 run) (heard_of t run a posts m))
+      → unless (ready_still t run a posts) (refused 8 run)
+      (unless (is_kind t a receive_kind) (refused 15 run) (heard_of t run a posts m))
       ≡ receive_of t run a posts m
   unfolding receive_of received_of
   reached_receive a m q = passed _ q.fits (passed _ (ap not (ne_eqb a epsilon q.named)) (passed _ (eq-eqb _ _ q.one_each) refl))
@@ -149,9 +147,9 @@ module _ (t : List ℕ) (run : ProgramGraphRun) (posts : List ℕ) where
       → PastGuards (transition_of t run epsilon posts word).answer ↔ AllPass t run epsilon posts run.times
   unfolding autonomous_of
   autonomous_exactly word q =
-      subst (λ (s : Stepped). PastGuards s.answer ↔ AllPass t run epsilon posts run.times) (reached_autonomous word q)
+      subst (λ (s : RunOutcome). PastGuards s.answer ↔ AllPass t run epsilon posts run.times) (reached_autonomous word q)
       (through
-      (guards (λ (s : Stepped). s.answer) (ready_still t run epsilon posts) (refused 8 run) _ refl (λ e. omega arith))
+      (guards (λ (s : RunOutcome). s.answer) (ready_still t run epsilon posts) (refused 8 run) _ refl (λ e. omega arith))
       (all_pass epsilon run.times))
 
   -- A plain step gets past its guards exactly when each process has a transition that passes, with the clocks that the action resets at 0.
@@ -159,12 +157,12 @@ module _ (t : List ℕ) (run : ProgramGraphRun) (posts : List ℕ) where
       → PastGuards (transition_of t run a posts word).answer ↔ AllPass t run a posts (clocks_after t a run.times)
   unfolding plain_of
   plain_exactly a word q =
-      subst (λ (s : Stepped). PastGuards s.answer ↔ AllPass t run a posts (clocks_after t a run.times)) (reached_plain a word q)
+      subst (λ (s : RunOutcome). PastGuards s.answer ↔ AllPass t run a posts (clocks_after t a run.times)) (reached_plain a word q)
       (through
-      (guards (λ (s : Stepped). s.answer)
+      (guards (λ (s : RunOutcome). s.answer)
       (ready_of t run.vars run.times (clocks_after t a run.times) run.places run.processes a posts)
       (refused 8 run) _ refl
-      (skip (λ (s : Stepped). s.answer) 8 _ (refused 26 run) _ (λ e. omega arith) (λ e. omega arith)))
+      (skip (λ (s : RunOutcome). s.answer) 8 _ (refused 26 run) _ (λ e. omega arith) (λ e. omega arith)))
       (all_pass a (clocks_after t a run.times)))
 
   -- A send gets past its guards exactly when each process has a transition that passes, on the clocks as they are.
@@ -184,9 +182,9 @@ module _ (t : List ℕ) (run : ProgramGraphRun) (posts : List ℕ) where
       → PastGuards (receive_of t run a posts m).answer ↔ AllPass t run a posts run.times
   unfolding heard_of
   receive_exactly a m q =
-      subst (λ (s : Received). PastGuards s.answer ↔ AllPass t run a posts run.times) (reached_receive a m q)
+      subst (λ (s : RunOutcome). PastGuards s.answer ↔ AllPass t run a posts run.times) (reached_receive a m q)
       (through
-      (guards (λ (s : Received). s.answer) (ready_still t run a posts) (refused_receive 8 run) _ refl
-      (skip (λ (s : Received). s.answer) 8 _ (refused_receive 15 run) _ (λ e. omega arith)
-      (skip (λ (s : Received). s.answer) 8 _ (refused_receive 5 run) _ (λ e. omega arith) (λ e. omega arith))))
+      (guards (λ (s : RunOutcome). s.answer) (ready_still t run a posts) (refused 8 run) _ refl
+      (skip (λ (s : RunOutcome). s.answer) 8 _ (refused 15 run) _ (λ e. omega arith)
+      (skip (λ (s : RunOutcome). s.answer) 8 _ (refused 5 run) _ (λ e. omega arith) (λ e. omega arith))))
       (all_pass a run.times))

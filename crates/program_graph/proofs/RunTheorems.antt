@@ -1,4 +1,5 @@
 -- What the calls on a run do.
+use Rattle.std.specs.Prelude.{Ok, Err}
 use Prim.Native.Nat.{ℕ, ◌+◌, ◌<◌, ◌≤◌}
 use mathlib.Core.Path.{◌≡◌, refl, sym, ap, subst, ◌∙◌}
 use mathlib.Core.Bool.{Bool, true, false}
@@ -17,7 +18,7 @@ use Rattle.time.specs.Time.{in_range}
 use Rattle.time.proofs.Theorems.{between}
 use Rattle.grammar.specs.Evaluation.{blank}
 use Rattle.grammar.specs.declared.values.Slot.{Slot}
-use Rattle.grammar.specs.declared.evaluation.Evaluated.TheVariants.{Known}
+use Rattle.std.specs.Prelude.{Some}
 use Rattle.graph_tables.specs.Refusals.{refusal}
 use Rattle.graph_tables.specs.Sizes.{message_room, send_kind, receive_kind, last_time}
 use Rattle.graph_tables.specs.declared.handed.Message.{Message}
@@ -28,17 +29,13 @@ use Rattle.run_steps.specs.Steps.{is_kind, clocks_after, effected_of, clock_fits
 use Rattle.run_steps.specs.Messages.{unsaid, spoken_of, message_of, no_message, taken_of}
 use Rattle.run_steps.proofs.StepLaws.{fits_at, clock_fits_lem, reset_at_lem, reset_other, shifted_at, placed_at, effects_other}
 use Rattle.run_steps.proofs.MessageLaws.{taken_kept, taken_last}
-use Rattle.program_graph.specs.Facts.{Sized, Ok, InvariantsAt, Holding, AllPass, PlainAsked}
+use Rattle.program_graph.specs.Facts.{Sized, Accepted, InvariantsAt, Holding, AllPass, PlainAsked}
 use Rattle.program_graph.specs.declared.record.ProgramGraphRun.{ProgramGraphRun}
-use Rattle.program_graph.specs.declared.answers.Stepped.{Stepped}
-use Rattle.program_graph.specs.declared.answers.Waited.{Waited}
-use Rattle.program_graph.specs.declared.answers.Sent.{Sent}
-use Rattle.program_graph.specs.declared.answers.Received.{Received}
-use Rattle.program_graph.specs.declared.answers.Held.{Held}
-use Rattle.program_graph.specs.Running.{refused, refused_wait, accepted_wait, fits_table, ready_still, moved_to, autonomous_of}
+use Rattle.program_graph.specs.Outcomes.{RunOutcome, Sent}
+use Rattle.program_graph.specs.Running.{refused, accepted, fits_table, ready_still, moved_to, autonomous_of}
 use Rattle.program_graph.specs.Running.{plain_of, acted_of, step_of, transition_of, wait_fits, wait_holds, later, waited_of, wait_of}
 use Rattle.program_graph.specs.Running.{can_wait_of}
-use Rattle.program_graph.specs.Messaging.{refused_send, refused_receive, said_of, sent_of, send_of, heard_of, received_of, receive_of}
+use Rattle.program_graph.specs.Messaging.{refused_send, said_of, sent_of, send_of, heard_of, received_of, receive_of}
 use Rattle.program_graph.proofs.SaidLaws.{turn, said}
 use Rattle.program_graph.proofs.RunLaws.{fitting, same_clocks, places_room, clocks_room, places_below, either_way}
 use Rattle.program_graph.proofs.AnswerLaws.{accepted_ok, is_ok, not_ok, Returns}
@@ -47,8 +44,8 @@ use Rattle.program_graph.proofs.RunReady.{invariant_at, invariants_from, step_as
 -- ---- asking for a wait
 -- an answer that something holds, of three tests, and the ladder of the same three
 asked : (f w h : Bool) (run after : ProgramGraphRun)
-    → (unless f (Held.Refused (refusal 32)) (Held.Is (w and h)) ≡ Held.Is true)
-    ↔ Ok (unless f (refused_wait 32 run) (unless w (refused_wait 26 run) (unless h (refused_wait 9 run) (accepted_wait after)))).answer
+    → (unless f (Err (refusal 32)) (Ok (w and h)) ≡ Ok true)
+    ↔ Accepted (unless f (refused 32 run) (unless w (refused 26 run) (unless h (refused 9 run) (accepted after)))).answer
 unfolding unless ◌and◌
 asked true true true run after = (λ e. accepted_ok, λ e. refl)
 asked true true false run after = (λ e. let z : ◌≡◌ {A = ℕ} 0 1 = cc in absurd (omega arith), not_ok)
@@ -57,17 +54,17 @@ asked false w h run after = (λ e. let z : ◌≡◌ {A = ℕ} 0 1 = cc in absur
 
 -- `can_wait` says yes exactly when `wait` is accepted.
 pub can_wait_exactly : (t : List ℕ) (run : ProgramGraphRun) (delta : ℕ)
-    → (can_wait_of t run delta ≡ Held.Is true) ↔ Ok (wait_of t run delta).answer
+    → (can_wait_of t run delta ≡ Ok true) ↔ Accepted (wait_of t run delta).answer
 unfolding can_wait_of wait_of waited_of
 can_wait_exactly t run delta = asked (fits_table t run) (wait_fits run delta) (wait_holds t run delta) run (later run delta)
 
 -- ---- refusals
 module _ (t : List ℕ) (run : ProgramGraphRun) where
   -- A refused step gives back the run.
-  pub step_refused : (a : ℕ) (posts : List ℕ) (word : ℕ) → (Ok (step_of t run a posts word).answer → ⊥) → (step_of t run a posts word).run ≡ run
+  pub step_refused : (a : ℕ) (posts : List ℕ) (word : ℕ) → (Accepted (step_of t run a posts word).answer → ⊥) → (step_of t run a posts word).run ≡ run
   unfolding step_of autonomous_of acted_of plain_of
   step_refused a posts word =
-      let P : Stepped → Type 0 = Returns (λ s. s.answer) (λ s. s.run) run in
+      let P : RunOutcome → Type 0 = Returns (λ s. s.answer) (λ s. s.run) run in
       rung P _ (refused 7 run) _ (λ n. refl)
       (λ e. rung P _ (refused 3 run) _ (λ n. refl)
       (λ e. either_way P (eqb a epsilon) _ _
@@ -78,56 +75,56 @@ module _ (t : List ℕ) (run : ProgramGraphRun) where
       (λ e. rung P _ (refused 26 run) _ (λ n. refl) (λ e n. absurd (n accepted_ok))))))))
 
   pub transition_refused : (a : ℕ) (posts : List ℕ) (word : ℕ)
-      → (Ok (transition_of t run a posts word).answer → ⊥) → (transition_of t run a posts word).run ≡ run
+      → (Accepted (transition_of t run a posts word).answer → ⊥) → (transition_of t run a posts word).run ≡ run
   unfolding transition_of
   transition_refused a posts word =
-      rung (Returns {A = Stepped} (λ s. s.answer) (λ s. s.run) run) _ (refused 32 run) _ (λ n. refl) (λ e. step_refused a posts word)
+      rung (Returns {A = RunOutcome} (λ s. s.answer) (λ s. s.run) run) _ (refused 32 run) _ (λ n. refl) (λ e. step_refused a posts word)
 
   -- A refused wait gives back the run.
-  pub wait_refused : (delta : ℕ) → (Ok (wait_of t run delta).answer → ⊥) → (wait_of t run delta).run ≡ run
+  pub wait_refused : (delta : ℕ) → (Accepted (wait_of t run delta).answer → ⊥) → (wait_of t run delta).run ≡ run
   unfolding wait_of waited_of
   wait_refused delta =
-      let P : Waited → Type 0 = Returns (λ s. s.answer) (λ s. s.run) run in
-      rung P _ (refused_wait 32 run) _ (λ n. refl)
-      (λ e. rung P _ (refused_wait 26 run) _ (λ n. refl)
-      (λ e. rung P _ (refused_wait 9 run) _ (λ n. refl) (λ e n. absurd (n accepted_ok))))
+      let P : RunOutcome → Type 0 = Returns (λ s. s.answer) (λ s. s.run) run in
+      rung P _ (refused 32 run) _ (λ n. refl)
+      (λ e. rung P _ (refused 26 run) _ (λ n. refl)
+      (λ e. rung P _ (refused 9 run) _ (λ n. refl) (λ e n. absurd (n accepted_ok))))
 
   -- A refused send gives back the run, and no message.
-  pub sent_refused : (a : ℕ) (posts : List ℕ) (word : ℕ) → (Ok (sent_of t run a posts word).answer → ⊥)
+  pub sent_refused : (a : ℕ) (posts : List ℕ) (word : ℕ) → (Accepted (sent_of t run a posts word).answer → ⊥)
       → ((sent_of t run a posts word).run ≡ run) × ((sent_of t run a posts word).message ≡ no_message)
   unfolding sent_of said_of
   sent_refused a posts word =
-      let P : Sent → Type 0 = λ s. (Ok s.answer → ⊥) → (s.run ≡ run) × (s.message ≡ no_message) in
+      let P : Sent → Type 0 = λ s. (Accepted s.answer → ⊥) → (s.run ≡ run) × (s.message ≡ no_message) in
       rung P _ (refused_send 14 run) _ (λ n. (refl, refl))
       (λ e. rung P _ (refused_send 7 run) _ (λ n. (refl, refl))
       (λ e. rung P _ (refused_send 8 run) _ (λ n. (refl, refl))
       (λ e. rung P _ (refused_send 14 run) _ (λ n. (refl, refl))
       (λ e. rung P _ (refused_send 26 run) _ (λ n. (refl, refl)) (λ e n. absurd (n accepted_ok))))))
 
-  pub send_refused : (a : ℕ) (posts : List ℕ) (word : ℕ) → (Ok (send_of t run a posts word).answer → ⊥)
+  pub send_refused : (a : ℕ) (posts : List ℕ) (word : ℕ) → (Accepted (send_of t run a posts word).answer → ⊥)
       → ((send_of t run a posts word).run ≡ run) × ((send_of t run a posts word).message ≡ no_message)
   unfolding send_of
   send_refused a posts word =
-      let P : Sent → Type 0 = λ s. (Ok s.answer → ⊥) → (s.run ≡ run) × (s.message ≡ no_message) in
+      let P : Sent → Type 0 = λ s. (Accepted s.answer → ⊥) → (s.run ≡ run) × (s.message ≡ no_message) in
       rung P _ (refused_send 32 run) _ (λ n. (refl, refl)) (λ e. sent_refused a posts word)
 
   -- A refused receive gives back the run.
   pub received_refused : (a : ℕ) (posts : List ℕ) (m : Message)
-      → (Ok (received_of t run a posts m).answer → ⊥) → (received_of t run a posts m).run ≡ run
+      → (Accepted (received_of t run a posts m).answer → ⊥) → (received_of t run a posts m).run ≡ run
   unfolding received_of heard_of
   received_refused a posts m =
-      let P : Received → Type 0 = Returns (λ s. s.answer) (λ s. s.run) run in
-      rung P _ (refused_receive 15 run) _ (λ n. refl)
-      (λ e. rung P _ (refused_receive 7 run) _ (λ n. refl)
-      (λ e. rung P _ (refused_receive 8 run) _ (λ n. refl)
-      (λ e. rung P _ (refused_receive 15 run) _ (λ n. refl)
-      (λ e. rung P _ (refused_receive 5 run) _ (λ n. refl) (λ e n. absurd (n accepted_ok))))))
+      let P : RunOutcome → Type 0 = Returns (λ s. s.answer) (λ s. s.run) run in
+      rung P _ (refused 15 run) _ (λ n. refl)
+      (λ e. rung P _ (refused 7 run) _ (λ n. refl)
+      (λ e. rung P _ (refused 8 run) _ (λ n. refl)
+      (λ e. rung P _ (refused 15 run) _ (λ n. refl)
+      (λ e. rung P _ (refused 5 run) _ (λ n. refl) (λ e n. absurd (n accepted_ok))))))
 
   pub receive_refused : (a : ℕ) (posts : List ℕ) (m : Message)
-      → (Ok (receive_of t run a posts m).answer → ⊥) → (receive_of t run a posts m).run ≡ run
+      → (Accepted (receive_of t run a posts m).answer → ⊥) → (receive_of t run a posts m).run ≡ run
   unfolding receive_of
   receive_refused a posts m =
-      rung (Returns {A = Received} (λ s. s.answer) (λ s. s.run) run) _ (refused_receive 32 run) _ (λ n. refl) (λ e. received_refused a posts m)
+      rung (Returns {A = RunOutcome} (λ s. s.answer) (λ s. s.run) run) _ (refused 32 run) _ (λ n. refl) (λ e. received_refused a posts m)
 
 -- ---- what an accepted call does
 -- a call of an action whose processes were ready moved them to their posts
@@ -163,11 +160,11 @@ module _ {t : List ℕ} {run : ProgramGraphRun} {a : ℕ} {posts : List ℕ} {va
 -- ---- a step
 module _ (t : List ℕ) (run : ProgramGraphRun) (posts : List ℕ) (word : ℕ) where
   -- an accepted step by EPSILON
-  autonomous_moved : Ok (transition_of t run epsilon posts word).answer
+  autonomous_moved : Accepted (transition_of t run epsilon posts word).answer
       → Moved t run epsilon posts run.vars run.times (transition_of t run epsilon posts word).run
   unfolding transition_of step_of autonomous_of
   autonomous_moved =
-      let P : Stepped → Type 0 = λ s. Ok s.answer → Moved t run epsilon posts run.vars run.times s.run in
+      let P : RunOutcome → Type 0 = λ s. Accepted s.answer → Moved t run epsilon posts run.vars run.times s.run in
       rung P (fits_table t run) (refused 32 run) _ not_ok
       (λ f. rung P _ (refused 7 run) _ not_ok
       (λ o. rung P _ (refused 3 run) _ not_ok
@@ -175,13 +172,13 @@ module _ (t : List ℕ) (run : ProgramGraphRun) (posts : List ℕ) (word : ℕ) 
       (λ r e. record { fits = f; ready = (all_pass t run posts epsilon run.times).0 r; same = refl }))))
 
   -- an accepted step by another action
-  plain_moved : (a : ℕ) → (a ≡ epsilon → ⊥) → Ok (transition_of t run a posts word).answer
+  plain_moved : (a : ℕ) → (a ≡ epsilon → ⊥) → Accepted (transition_of t run a posts word).answer
       → PlainAsked t run a posts
       × Moved t run a posts (effected_of t a run.vars word).vars (clocks_after t a run.times) (transition_of t run a posts word).run
   unfolding transition_of step_of acted_of plain_of
   plain_moved a n =
-      let P : Stepped → Type 0
-      = λ s. Ok s.answer
+      let P : RunOutcome → Type 0
+      = λ s. Accepted s.answer
       → PlainAsked t run a posts × Moved t run a posts (effected_of t a run.vars word).vars (clocks_after t a run.times) s.run in
       rung P (fits_table t run) (refused 32 run) _ not_ok
       (λ f. rung P _ (refused 7 run) _ not_ok
@@ -197,31 +194,31 @@ module _ (t : List ℕ) (run : ProgramGraphRun) (posts : List ℕ) (word : ℕ) 
       )))))))))
 
   -- an accepted step, by whichever action
-  step_moved : (a : ℕ) → Ok (transition_of t run a posts word).answer
+  step_moved : (a : ℕ) → Accepted (transition_of t run a posts word).answer
       → (vars : List Slot) × (clocks : List ℕ) × Moved t run a posts vars clocks (transition_of t run a posts word).run
   step_moved a = by (ℕ_discrete a epsilon)
     where
-      by : Dec (a ≡ epsilon) → Ok (transition_of t run a posts word).answer
+      by : Dec (a ≡ epsilon) → Accepted (transition_of t run a posts word).answer
           → (vars : List Slot) × (clocks : List ℕ) × Moved t run a posts vars clocks (transition_of t run a posts word).run
       by (yes q) = rw q (λ e. (run.vars, run.times, autonomous_moved e))
       by (no q) = λ e. ((effected_of t a run.vars word).vars, clocks_after t a run.times, (plain_moved a q e).1)
 
   -- After an accepted step each process is at its post.
-  pub step_moves : (a : ℕ) → Ok (transition_of t run a posts word).answer → Sized run
+  pub step_moves : (a : ℕ) → Accepted (transition_of t run a posts word).answer → Sized run
       → (p : ℕ) → p < run.processes → get_or (transition_of t run a posts word).run.places p 0 ≡ get_or posts p 0
   step_moves a e = at_posts (step_moved a e).2
 
   -- After an accepted step the invariants of every occupied location hold.
-  pub step_holds : (a : ℕ) → Ok (transition_of t run a posts word).answer → Sized run → Holding t (transition_of t run a posts word).run
+  pub step_holds : (a : ℕ) → Accepted (transition_of t run a posts word).answer → Sized run → Holding t (transition_of t run a posts word).run
   step_holds a e = holding (step_moved a e).2
 
   -- After an accepted step by EPSILON every variable and every clock is as before.
-  pub autonomous_still : Ok (transition_of t run epsilon posts word).answer
+  pub autonomous_still : Accepted (transition_of t run epsilon posts word).answer
       → ((transition_of t run epsilon posts word).run.vars ≡ run.vars) × ((transition_of t run epsilon posts word).run.times ≡ run.times)
   autonomous_still e = (its_vars (autonomous_moved e), its_clocks (autonomous_moved e))
 
   -- After an accepted plain step each clock that the action resets is 0.
-  pub plain_resets : (a : ℕ) → (a ≡ epsilon → ⊥) → Ok (transition_of t run a posts word).answer → Sized run
+  pub plain_resets : (a : ℕ) → (a ≡ epsilon → ⊥) → Accepted (transition_of t run a posts word).answer → Sized run
       → (i : ℕ) → i < reset_count t a → get_or (transition_of t run a posts word).run.times (reset_at t a i) 0 ≡ 0
   plain_resets a n e z i l =
       let q : PlainAsked t run a posts = (plain_moved a n e).0 in
@@ -231,14 +228,14 @@ module _ (t : List ℕ) (run : ProgramGraphRun) (posts : List ℕ) (word : ℕ) 
       ∙ reset_at_lem t a run.times (reset_count t a) i l (omega (arith, s.counts.clocks, z.times))
 
   -- After an accepted plain step each other clock is as before.
-  pub plain_other_clock : (a : ℕ) → (a ≡ epsilon → ⊥) → Ok (transition_of t run a posts word).answer
+  pub plain_other_clock : (a : ℕ) → (a ≡ epsilon → ⊥) → Accepted (transition_of t run a posts word).answer
       → (c : ℕ) → ((i : ℕ) → i < reset_count t a → reset_at t a i ≡ c → ⊥)
       → get_or (transition_of t run a posts word).run.times c 0 ≡ get_or run.times c 0
   plain_other_clock a n e c none =
       ap (λ (x : List ℕ). get_or x c 0) (its_clocks (plain_moved a n e).1) ∙ reset_other t a run.times (reset_count t a) c none
 
   -- After an accepted plain step each variable that no effect assigns is as before.
-  pub plain_other_variable : (a : ℕ) → (a ≡ epsilon → ⊥) → Ok (transition_of t run a posts word).answer
+  pub plain_other_variable : (a : ℕ) → (a ≡ epsilon → ⊥) → Accepted (transition_of t run a posts word).answer
       → (v : ℕ) → ((e : ℕ) → e < effect_count t a → effect_var t a e ≡ v → ⊥)
       → get_or (transition_of t run a posts word).run.vars v blank ≡ get_or run.vars v blank
   plain_other_variable a n e v none =
@@ -254,10 +251,10 @@ module _ (t : List ℕ) (run : ProgramGraphRun) (a : ℕ) (posts : List ℕ) (wo
     moved : Moved t run a posts run.vars run.times sent.run
 
   -- an accepted send
-  send_moved : Ok (send_of t run a posts word).answer → Said (send_of t run a posts word)
+  send_moved : Accepted (send_of t run a posts word).answer → Said (send_of t run a posts word)
   unfolding send_of sent_of said_of
   send_moved =
-      let P : Sent → Type 0 = λ s. Ok s.answer → Said s in
+      let P : Sent → Type 0 = λ s. Accepted s.answer → Said s in
       rung P (fits_table t run) (refused_send 32 run) (sent_of t run a posts word) not_ok
       (λ f. rung P _ (refused_send 14 run) _ not_ok
       (λ n. rung P _ (refused_send 7 run) _ not_ok
@@ -273,24 +270,24 @@ module _ (t : List ℕ) (run : ProgramGraphRun) (a : ℕ) (posts : List ℕ) (wo
       }))))))
 
   -- After an accepted send each process is at its post.
-  pub send_moves : Ok (send_of t run a posts word).answer → Sized run
+  pub send_moves : Accepted (send_of t run a posts word).answer → Sized run
       → (p : ℕ) → p < run.processes → get_or (send_of t run a posts word).run.places p 0 ≡ get_or posts p 0
   send_moves e = at_posts (send_moved e).moved
 
   -- After an accepted send the invariants of every occupied location hold.
-  pub send_holds : Ok (send_of t run a posts word).answer → Sized run → Holding t (send_of t run a posts word).run
+  pub send_holds : Accepted (send_of t run a posts word).answer → Sized run → Holding t (send_of t run a posts word).run
   send_holds e = holding (send_moved e).moved
 
   -- After an accepted send every variable and every clock is as before.
-  pub send_still : Ok (send_of t run a posts word).answer
+  pub send_still : Accepted (send_of t run a posts word).answer
       → ((send_of t run a posts word).run.vars ≡ run.vars) × ((send_of t run a posts word).run.times ≡ run.times)
   send_still e = (its_vars (send_moved e).moved, its_clocks (send_moved e).moved)
 
   -- The message of an accepted send has a value for each expression: the expression's on the variables as they are.
-  pub send_says : Ok (send_of t run a posts word).answer
+  pub send_says : Accepted (send_of t run a posts word).answer
       → ((send_of t run a posts word).message.count ≡ effect_count t a)
       × ((e : ℕ) → e < effect_count t a
-      → (turn t a run.vars (unsaid word) e).value ≡ Known (get_or (send_of t run a posts word).message.values e blank).value)
+      → (turn t a run.vars (unsaid word) e).value ≡ Some (get_or (send_of t run a posts word).message.values e blank).value)
   send_says h =
       let q = send_moved h in
       let few : effect_count t a ≤ message_room
@@ -298,48 +295,48 @@ module _ (t : List ℕ) (run : ProgramGraphRun) (a : ℕ) (posts : List ℕ) (wo
       (eqb-true _ _ (and_rest _ _ q.kind))).few in (
         ap (λ (m : Message). m.count) q.message,
         λ e l. (said t a run.vars (unsaid word) (effect_count t a) q.fit (omega arith)).1 e l
-            ∙ ap (λ (m : Message). Known (get_or m.values e blank).value) (sym q.message),
+            ∙ ap (λ (m : Message). Some (get_or m.values e blank).value) (sym q.message),
       )
 
 -- ---- a receive
 module _ (t : List ℕ) (run : ProgramGraphRun) (a : ℕ) (posts : List ℕ) (m : Message) where
   -- an accepted receive
-  receive_moved : Ok (receive_of t run a posts m).answer
+  receive_moved : Accepted (receive_of t run a posts m).answer
       → (is_kind t a receive_kind ≡ true) × Moved t run a posts (taken_of t a m run.vars) run.times (receive_of t run a posts m).run
   unfolding receive_of received_of heard_of
   receive_moved =
-      let P : Received → Type 0
-      = λ s. Ok s.answer → (is_kind t a receive_kind ≡ true) × Moved t run a posts (taken_of t a m run.vars) run.times s.run in
-      rung P (fits_table t run) (refused_receive 32 run) _ not_ok
-      (λ f. rung P _ (refused_receive 15 run) _ not_ok
-      (λ n. rung P _ (refused_receive 7 run) _ not_ok
-      (λ o. rung P _ (refused_receive 8 run) _ not_ok
-      (λ r. rung P _ (refused_receive 15 run) _ not_ok
-      (λ k. rung P _ (refused_receive 5 run) _ not_ok
+      let P : RunOutcome → Type 0
+      = λ s. Accepted s.answer → (is_kind t a receive_kind ≡ true) × Moved t run a posts (taken_of t a m run.vars) run.times s.run in
+      rung P (fits_table t run) (refused 32 run) _ not_ok
+      (λ f. rung P _ (refused 15 run) _ not_ok
+      (λ n. rung P _ (refused 7 run) _ not_ok
+      (λ o. rung P _ (refused 8 run) _ not_ok
+      (λ r. rung P _ (refused 15 run) _ not_ok
+      (λ k. rung P _ (refused 5 run) _ not_ok
       (λ v e. (k, record { fits = f; ready = (all_pass t run posts a run.times).0 r; same = refl })))))))
 
   -- After an accepted receive each process is at its post.
-  pub receive_moves : Ok (receive_of t run a posts m).answer → Sized run
+  pub receive_moves : Accepted (receive_of t run a posts m).answer → Sized run
       → (p : ℕ) → p < run.processes → get_or (receive_of t run a posts m).run.places p 0 ≡ get_or posts p 0
   receive_moves e = at_posts (receive_moved e).1
 
   -- After an accepted receive the invariants of every occupied location hold.
-  pub receive_holds : Ok (receive_of t run a posts m).answer → Sized run → Holding t (receive_of t run a posts m).run
+  pub receive_holds : Accepted (receive_of t run a posts m).answer → Sized run → Holding t (receive_of t run a posts m).run
   receive_holds e = holding (receive_moved e).1
 
   -- After an accepted receive every clock is as before.
-  pub receive_clocks : Ok (receive_of t run a posts m).answer → (receive_of t run a posts m).run.times ≡ run.times
+  pub receive_clocks : Accepted (receive_of t run a posts m).answer → (receive_of t run a posts m).run.times ≡ run.times
   receive_clocks e = its_clocks (receive_moved e).1
 
   -- After an accepted receive each variable that takes no value is as before.
-  pub receive_other_variable : Ok (receive_of t run a posts m).answer
+  pub receive_other_variable : Accepted (receive_of t run a posts m).answer
       → (v : ℕ) → ((e : ℕ) → e < effect_count t a → effect_var t a e ≡ v → ⊥)
       → get_or (receive_of t run a posts m).run.vars v blank ≡ get_or run.vars v blank
   receive_other_variable e v none =
       ap (λ (x : List Slot). get_or x v blank) (its_vars (receive_moved e).1) ∙ taken_kept t a m run.vars (effect_count t a) v none
 
   -- After an accepted receive each other variable has its value of the message: the later one where it takes two.
-  pub receive_target : Ok (receive_of t run a posts m).answer → Sized run
+  pub receive_target : Accepted (receive_of t run a posts m).answer → Sized run
       → (e : ℕ) → e < effect_count t a → ((k : ℕ) → e < k → k < effect_count t a → effect_var t a k ≡ effect_var t a e → ⊥)
       → get_or (receive_of t run a posts m).run.vars (effect_var t a e) blank ≡ get_or m.values e blank
   receive_target h z e l last =
@@ -359,13 +356,13 @@ module _ (t : List ℕ) (run : ProgramGraphRun) (delta : ℕ) where
     held : wait_holds t run delta ≡ true
     same : after ≡ later run delta
 
-  waited : Ok (wait_of t run delta).answer → Ended (wait_of t run delta).run
+  waited : Accepted (wait_of t run delta).answer → Ended (wait_of t run delta).run
   unfolding wait_of waited_of
   waited =
-      let P : Waited → Type 0 = λ s. Ok s.answer → Ended s.run in
-      rung P (fits_table t run) (refused_wait 32 run) _ not_ok
-      (λ f. rung P _ (refused_wait 26 run) _ not_ok
-      (λ c. rung P _ (refused_wait 9 run) _ not_ok
+      let P : RunOutcome → Type 0 = λ s. Accepted s.answer → Ended s.run in
+      rung P (fits_table t run) (refused 32 run) _ not_ok
+      (λ f. rung P _ (refused 26 run) _ not_ok
+      (λ c. rung P _ (refused 9 run) _ not_ok
       (λ h e. record { fits = f; counted = c; held = h; same = refl })))
 
   -- the invariants of every occupied location hold at the end
@@ -377,12 +374,12 @@ module _ (t : List ℕ) (run : ProgramGraphRun) (delta : ℕ) where
 
   -- On a run that fits its table a wait is accepted exactly when no clock passes last_time and every invariant holds at its end.
   pub wait_exactly : fits_table t run ≡ true
-      → (Ok (wait_of t run delta).answer)
+      → (Accepted (wait_of t run delta).answer)
       ↔ (((c : ℕ) → c < run.clocks → get_or run.times c 0 + delta ≤ last_time) × Holding t (later run delta))
   unfolding wait_of waited_of place_holds
   wait_exactly f = (
     λ e. (λ c l. fits_at run.times delta run.clocks c (waited e).counted l, ends (waited e).held),
-    λ q. is_ok (ap (λ (s : Waited). s.answer)
+    λ q. is_ok (ap (λ (s : RunOutcome). s.answer)
         (sym (passed _ f
         (passed _ (all_from (clock_fits run.times delta) run.clocks (λ c l. clock_fits_lem run.times delta c (q.0 c l)))
         (passed _
@@ -392,7 +389,7 @@ module _ (t : List ℕ) (run : ProgramGraphRun) (delta : ℕ) where
   )
 
   -- An accepted wait moves every clock by the delta.
-  pub wait_moves : Ok (wait_of t run delta).answer → Sized run
+  pub wait_moves : Accepted (wait_of t run delta).answer → Sized run
       → (c : ℕ) → c < clock_count t → get_or (wait_of t run delta).run.times c 0 ≡ get_or run.times c 0 + delta
   wait_moves e z c l =
       let w = waited e in
@@ -401,16 +398,16 @@ module _ (t : List ℕ) (run : ProgramGraphRun) (delta : ℕ) where
       (clocks_room t run w.fits z)
 
   -- After an accepted wait every process is where it was and every variable as before.
-  pub wait_still : Ok (wait_of t run delta).answer
+  pub wait_still : Accepted (wait_of t run delta).answer
       → ((wait_of t run delta).run.places ≡ run.places) × ((wait_of t run delta).run.vars ≡ run.vars)
   wait_still e = (ap (λ (r : ProgramGraphRun). r.places) (waited e).same, ap (λ (r : ProgramGraphRun). r.vars) (waited e).same)
 
   -- At the end of an accepted wait the invariants of every occupied location hold.
-  pub wait_holds_lem : Ok (wait_of t run delta).answer → Holding t (wait_of t run delta).run
+  pub wait_holds_lem : Accepted (wait_of t run delta).answer → Holding t (wait_of t run delta).run
   wait_holds_lem e = subst (λ (r : ProgramGraphRun). Holding t r) (sym (waited e).same) (ends (waited e).held)
 
   -- If they hold before an accepted wait, they hold at every instant of it.
-  pub wait_holds_throughout : Ok (wait_of t run delta).answer → Sized run → Holding t run → (d : ℕ) → d ≤ delta → Holding t (later run d)
+  pub wait_holds_throughout : Accepted (wait_of t run delta).answer → Sized run → Holding t run → (d : ℕ) → d ≤ delta → Holding t (later run d)
   wait_holds_throughout e z start d m p l i k =
       let w = waited e in
       let formed = fitting t run w.fits in

@@ -13,18 +13,17 @@ use Rattle.grammar.specs.Evaluation.{blank, evaluation_of}
 use Rattle.grammar.specs.declared.values.Val.{Val}
 use Rattle.grammar.specs.declared.values.Slot.{Slot}
 use Rattle.grammar.specs.declared.evaluation.Evaluation.{Evaluation}
-use Rattle.grammar.specs.declared.evaluation.Evaluated.{Evaluated}
-use Rattle.grammar.specs.declared.evaluation.Evaluated.TheVariants.{Known, NoValue}
+use Rattle.std.specs.Prelude.{Option, Some, None}
 use Rattle.graph_tables.specs.Words.{effect_items}
 use Rattle.run_steps.specs.Messages.{voiced, spoken_below}
 use Rattle.run_steps.specs.declared.inner.messages.Speech.{Speech}
 use Rattle.run_steps.proofs.MessageLaws.{next_runs, spoken_fit}
 
 -- where an expression is evaluated and all fit, there was a value, and it is stored
-stored : (s : Speech) (n : ℕ) (e : Evaluated) (rest : ℕ) → (voiced s n e rest).fits ≡ true
-    → (x : Val) × (e ≡ Known x) × ((voiced s n e rest).values ≡ set s.values n (record { value = x }))
-stored s n (Known x) rest h = (x, refl, refl)
-stored s n NoValue rest h = never h
+stored : (s : Speech) (n : ℕ) (e : Option Val) (rest : ℕ) → (voiced s n e rest).fits ≡ true
+    → (x : Val) × (e ≡ Some x) × ((voiced s n e rest).values ≡ set s.values n (record { value = x }))
+stored s n (Some x) rest h = (x, refl, refl)
+stored s n None rest h = never h
 
 module _ (t : List ℕ) (a : ℕ) (vars : List Slot) (s : Speech) where
   -- what expression e gives: its word is what the draws before it left
@@ -33,7 +32,7 @@ module _ (t : List ℕ) (a : ℕ) (vars : List Slot) (s : Speech) where
 
   -- one more expression, where all fit
   once : (n : ℕ) → (spoken_below t a vars s (suc n)).fits ≡ true
-      → (x : Val) × ((turn n).value ≡ Known x)
+      → (x : Val) × ((turn n).value ≡ Some x)
       × ((spoken_below t a vars s (suc n)).values ≡ set (spoken_below t a vars s n).values n (record { value = x }))
   unfolding spoken_below
   once n h =
@@ -45,7 +44,7 @@ module _ (t : List ℕ) (a : ℕ) (vars : List Slot) (s : Speech) where
   -- Where all fit, value e is that of expression e.
   pub said : (n : ℕ) → (spoken_below t a vars s n).fits ≡ true → n ≤ length s.values
       → (length (spoken_below t a vars s n).values ≡ length s.values)
-      × ((e : ℕ) → e < n → (turn e).value ≡ Known (get_or (spoken_below t a vars s n).values e blank).value)
+      × ((e : ℕ) → e < n → (turn e).value ≡ Some (get_or (spoken_below t a vars s n).values e blank).value)
   unfolding spoken_below
   said zero h m = (refl, λ e l. absurd (not-suc-le-zero l))
   said (suc n) h m =
@@ -58,8 +57,8 @@ module _ (t : List ℕ) (a : ℕ) (vars : List Slot) (s : Speech) where
         ap length q.2 ∙ length-set before n x ∙ k.0,
         λ e l. ⊎_elim
             (λ (p : e ≡ n).
-            rw p (q.1 ∙ ap (λ (y : Slot). Known y.value) (sym (at n ∙ get_or-set_same before n x blank (omega (arith, k.0))))))
+            rw p (q.1 ∙ ap (λ (y : Slot). Some y.value) (sym (at n ∙ get_or-set_same before n x blank (omega (arith, k.0))))))
             (λ (p : e < n).
-            k.1 e p ∙ ap (λ (y : Slot). Known y.value) (sym (at e ∙ get_or-set_other before n e x blank (λ z. omega arith))))
+            k.1 e p ∙ ap (λ (y : Slot). Some y.value) (sym (at e ∙ get_or-set_other before n e x blank (λ z. omega arith))))
             (eq-or-lt_of_le (le_of_suc-le-suc l)),
       )

@@ -23,10 +23,7 @@ use Rattle.program_graph.specs.Running.{autonomous_of, plain_of, acted_of, step_
 use Rattle.program_graph.specs.Messaging.{said_of, sent_of, heard_of, received_of}
 use Rattle.program_graph.specs.Inner.{Small}
 use Rattle.program_graph.specs.declared.record.ProgramGraphRun.{ProgramGraphRun}
-use Rattle.program_graph.specs.declared.answers.Stepped.{Stepped}
-use Rattle.program_graph.specs.declared.answers.Waited.{Waited}
-use Rattle.program_graph.specs.declared.answers.Sent.{Sent}
-use Rattle.program_graph.specs.declared.answers.Received.{Received}
+use Rattle.program_graph.specs.Outcomes.{RunOutcome, Sent}
 
 -- ---- lists of them
 small_set : (xs : List ℕ) (i x : ℕ) → Small xs → x < word32 → Small (set xs i x)
@@ -77,13 +74,13 @@ pub record SmallRun (run : ProgramGraphRun) : Type 0 where
   pub times : Small run.times
 
 module _ (t : List ℕ) (run : ProgramGraphRun) (sound : Sound t) (h : SmallRun run) where
-  abbrev Step : Stepped → Type 0
+  abbrev Step : RunOutcome → Type 0
   Step s = SmallRun s.run
 
   abbrev Sends : Sent → Type 0
   Sends s = SmallRun s.run
 
-  abbrev Receives : Received → Type 0
+  abbrev Receives : RunOutcome → Type 0
   Receives s = SmallRun s.run
 
   autonomous_small : (posts : List ℕ) → ((p : ℕ) → p < run.processes → get_or posts p 0 < word32) → Step (autonomous_of t run posts)
@@ -125,8 +122,8 @@ module _ (t : List ℕ) (run : ProgramGraphRun) (sound : Sound t) (h : SmallRun 
   pub wait_small : (delta : ℕ) → SmallRun (waited_of t run delta).run
   unfolding waited_of
   wait_small delta =
-      rung (λ (w : Waited). SmallRun w.run) _ _ _ h (λ e.
-      rung (λ (w : Waited). SmallRun w.run) _ _ _ h (λ f.
+      rung (λ (w : RunOutcome). SmallRun w.run) _ _ _ h (λ e.
+      rung (λ (w : RunOutcome). SmallRun w.run) _ _ _ h (λ f.
       record { places = h.places; times = small_shifted run.times delta run.clocks h.times e run.clocks (omega arith) }))
 
   pub send_small : (a : ℕ) (posts : List ℕ) (word : ℕ) → SmallRun (sent_of t run a posts word).run

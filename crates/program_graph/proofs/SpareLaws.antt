@@ -18,14 +18,11 @@ use Rattle.graph_tables.specs.declared.handed.Message.{Message}
 use Rattle.run_steps.specs.Steps.{placed_below, clocks_after}
 use Rattle.run_steps.proofs.StepLaws.{reset_other, unmoved}
 use Rattle.run_steps.proofs.AgreeLaws.{effected_past, taken_past}
-use Rattle.program_graph.specs.Running.{run_formed, fits_table, refused, refused_wait, autonomous_of, plain_of, acted_of, step_of}
+use Rattle.program_graph.specs.Running.{run_formed, fits_table, refused, autonomous_of, plain_of, acted_of, step_of}
 use Rattle.program_graph.specs.Running.{transition_of, waited_of, wait_of}
-use Rattle.program_graph.specs.Messaging.{refused_send, said_of, sent_of, send_of, refused_receive, heard_of, received_of, receive_of}
+use Rattle.program_graph.specs.Messaging.{refused_send, said_of, sent_of, send_of, heard_of, received_of, receive_of}
 use Rattle.program_graph.specs.declared.record.ProgramGraphRun.{ProgramGraphRun}
-use Rattle.program_graph.specs.declared.answers.Stepped.{Stepped}
-use Rattle.program_graph.specs.declared.answers.Waited.{Waited}
-use Rattle.program_graph.specs.declared.answers.Sent.{Sent}
-use Rattle.program_graph.specs.declared.answers.Received.{Received}
+use Rattle.program_graph.specs.Outcomes.{RunOutcome, Sent}
 use Rattle.program_graph.proofs.LeaveLaws.{variables_same, clocks_same}
 
 -- ---- public and inner
@@ -36,7 +33,7 @@ module _ (t : List ℕ) (run : ProgramGraphRun) (h : fits_table t run ≡ true) 
 
   pub wait_inner : (delta : ℕ) → wait_of t run delta ≡ waited_of t run delta
   unfolding wait_of
-  wait_inner delta = sym (passed (refused_wait 32 run) h refl)
+  wait_inner delta = sym (passed (refused 32 run) h refl)
 
   pub send_inner : (a : ℕ) (posts : List ℕ) (word : ℕ) → send_of t run a posts word ≡ sent_of t run a posts word
   unfolding send_of
@@ -44,7 +41,7 @@ module _ (t : List ℕ) (run : ProgramGraphRun) (h : fits_table t run ≡ true) 
 
   pub receive_inner : (a : ℕ) (posts : List ℕ) (m : Message) → receive_of t run a posts m ≡ received_of t run a posts m
   unfolding receive_of
-  receive_inner a posts m = sym (passed (refused_receive 32 run) h refl)
+  receive_inner a posts m = sym (passed (refused 32 run) h refl)
 
 -- ---- slots past the counts
 -- what one run has there is what another has
@@ -63,7 +60,7 @@ module _ (t : List ℕ) (run : ProgramGraphRun) (sound : Sound t) (formed : run_
   same : Spare run run
   same = record { places = λ p l. refl; vars = λ v l. refl; times = λ c l. refl }
 
-  abbrev Steps : Stepped → Type 0
+  abbrev Steps : RunOutcome → Type 0
   Steps s = Spare run s.run
 
   placed : (posts : List ℕ) (p : ℕ) → run.processes ≤ p → get_or (placed_below run.places posts run.processes) p 0 ≡ get_or run.places p 0
@@ -104,8 +101,8 @@ module _ (t : List ℕ) (run : ProgramGraphRun) (sound : Sound t) (formed : run_
   pub wait_spare : (delta : ℕ) → Spare run (waited_of t run delta).run
   unfolding waited_of
   wait_spare delta =
-      rung (λ (w : Waited). Spare run w.run) _ _ _ same (λ e.
-      rung (λ (w : Waited). Spare run w.run) _ _ _ same (λ f.
+      rung (λ (w : RunOutcome). Spare run w.run) _ _ _ same (λ e.
+      rung (λ (w : RunOutcome). Spare run w.run) _ _ _ same (λ f.
       record { places = λ p l. refl; vars = λ v l. refl; times = λ c l. unmoved run.times delta run.clocks c l }))
 
   pub send_spare : (a : ℕ) (posts : List ℕ) (word : ℕ) → Spare run (sent_of t run a posts word).run
@@ -121,11 +118,11 @@ module _ (t : List ℕ) (run : ProgramGraphRun) (sound : Sound t) (formed : run_
   pub receive_spare : (a : ℕ) (posts : List ℕ) (m : Message) → Spare run (received_of t run a posts m).run
   unfolding received_of heard_of
   receive_spare a posts m =
-      rung (λ (s : Received). Spare run s.run) _ _ _ same (λ e.
-      rung (λ (s : Received). Spare run s.run) _ _ _ same (λ f.
-      rung (λ (s : Received). Spare run s.run) _ _ _ same (λ g.
-      rung (λ (s : Received). Spare run s.run) _ _ _ same (λ h.
-      rung (λ (s : Received). Spare run s.run) _ _ _ same (λ k.
+      rung (λ (s : RunOutcome). Spare run s.run) _ _ _ same (λ e.
+      rung (λ (s : RunOutcome). Spare run s.run) _ _ _ same (λ f.
+      rung (λ (s : RunOutcome). Spare run s.run) _ _ _ same (λ g.
+      rung (λ (s : RunOutcome). Spare run s.run) _ _ _ same (λ h.
+      rung (λ (s : RunOutcome). Spare run s.run) _ _ _ same (λ k.
       let known = ltb-true a (action_count t) (and_first _ _ h) in
       let receive = eqb-true (action_kind t a) receive_kind (and_rest _ _ h) in
       record {

@@ -1,5 +1,7 @@
 -- What the layer above relies on: a message that is sent is one of its action, and one of its action is taken; a send is refused for no
 -- kind of action but its own, and so is a receive.
+use Rattle.graph_tables.specs.Answers.{Answer}
+use Rattle.std.specs.Prelude.{⊤}
 use Prim.Native.Nat.{ℕ, zero, suc, ◌<◌}
 use mathlib.Core.Path.{◌≡◌, refl, sym, ap, subst, ◌∙◌}
 use mathlib.Core.Bool.{true, not}
@@ -16,8 +18,8 @@ use Rattle.grammar.specs.Evaluation.{blank, evaluation_of}
 use Rattle.grammar.specs.Slots.{kind_in, FitVal}
 use Rattle.grammar.specs.declared.values.«Type».{«Type» as Kind}
 use Rattle.grammar.specs.declared.values.Slot.{Slot}
-use Rattle.grammar.specs.declared.evaluation.Evaluated.{Evaluated}
-use Rattle.grammar.specs.declared.evaluation.Evaluated.TheVariants.{Known, NoValue}
+use Rattle.std.specs.Prelude.{Option, Some, None}
+use Rattle.grammar.specs.declared.values.Val.{Val}
 use Rattle.grammar.proofs.Sound.{HasKind}
 use Rattle.grammar.proofs.Theorems.{typed_value}
 use Rattle.grammar.proofs.FitLaws.{slots_fit, FitEvaluated, evaluation_fits}
@@ -27,20 +29,17 @@ use Rattle.graph_tables.specs.RunWords.{vars_in}
 use Rattle.graph_tables.specs.Sound.{Sound}
 use Rattle.graph_tables.specs.Messages.{is_plain, is_send, is_receive, message_count, value_kind}
 use Rattle.graph_tables.specs.declared.handed.Message.{Message}
-use Rattle.graph_tables.specs.declared.answers.Done.{Done}
 use Rattle.graph_tables.proofs.MessageLaws.{plain_kind_lem, send_kind_lem, receive_kind_lem, send_no_receive, received_kind, sent_kind}
 use Rattle.run_steps.specs.Steps.{is_kind}
 use Rattle.run_steps.specs.Messages.{voiced, spoken_next, spoken_below, unsaid, spoken_of, message_of, value_fits, message_fits}
 use Rattle.run_steps.specs.declared.inner.messages.Speech.{Speech}
 use Rattle.run_steps.proofs.StepLaws.{set_keeps}
-use Rattle.program_graph.specs.Facts.{Ok, Not}
+use Rattle.program_graph.specs.Facts.{Accepted, Not}
 use Rattle.program_graph.specs.Running.{refused, ready_still, autonomous_of, plain_of, acted_of, step_of}
-use Rattle.program_graph.specs.Messaging.{refused_send, said_of, sent_of, refused_receive, heard_of, received_of}
+use Rattle.program_graph.specs.Messaging.{refused_send, said_of, sent_of, heard_of, received_of}
 use Rattle.program_graph.specs.Inner.{run_at, RunOf}
 use Rattle.program_graph.specs.declared.record.ProgramGraphRun.{ProgramGraphRun}
-use Rattle.program_graph.specs.declared.answers.Stepped.{Stepped}
-use Rattle.program_graph.specs.declared.answers.Sent.{Sent}
-use Rattle.program_graph.specs.declared.answers.Received.{Received}
+use Rattle.program_graph.specs.Outcomes.{RunOutcome, Sent}
 use Rattle.program_graph.proofs.SaidLaws.{turn, said}
 use Rattle.program_graph.proofs.RunLaws.{of_kind, either_way}
 use Rattle.program_graph.proofs.RunKept.{fit}
@@ -54,11 +53,11 @@ pub record MessageOf (t : List ℕ) (a : ℕ) (m : Message) : Type 0 where
 -- ---- what a send says
 -- every value is such as a program holds: also a blank
 module _ (t : List ℕ) (a : ℕ) (vars : List Slot) (fits : (n : ℕ) → FitVal (get_or vars n blank).value) where
-  voiced_fits : (s : Speech) (n : ℕ) (e : Evaluated) (rest : ℕ) → FitEvaluated e → ((k : ℕ) → FitVal (get_or s.values k blank).value)
+  voiced_fits : (s : Speech) (n : ℕ) (e : Option Val) (rest : ℕ) → FitEvaluated e → ((k : ℕ) → FitVal (get_or s.values k blank).value)
       → (k : ℕ) → FitVal (get_or (voiced s n e rest).values k blank).value
-  voiced_fits s n (Known x) rest f h k =
+  voiced_fits s n (Some x) rest f h k =
       set_keeps (λ (y : Slot). FitVal y.value) blank s.values n (record { value = x }) k (λ e. f) (h k)
-  voiced_fits s n NoValue rest f h k = h k
+  voiced_fits s n None rest f h k = h k
 
   spoken_fits : (s : Speech) → ((k : ℕ) → FitVal (get_or s.values k blank).value) → (n : ℕ)
       → (k : ℕ) → FitVal (get_or (spoken_below t a vars s n).values k blank).value
@@ -78,13 +77,13 @@ blanks_fit (suc n) zero = tt
 blanks_fit (suc n) (suc k) = blanks_fit n k
 
 -- a value of a kind, where there is one
-known_kind : (e : Evaluated) (k : Kind) (s : Slot) → HasKind e k → e ≡ Known s.value → kind_in s.value ≡ kind_word k
-known_kind (Known x) k s h e = ap (λ (v : Evaluated). kind_number v) (sym e) ∙ ap kind_word h
+known_kind : (e : Option Val) (k : Kind) (s : Slot) → HasKind e k → e ≡ Some s.value → kind_in s.value ≡ kind_word k
+known_kind (Some x) k s h e = ap (λ (v : Option Val). kind_number v) (sym e) ∙ ap kind_word h
   where
-    kind_number : Evaluated → ℕ
-    kind_number (Known v) = kind_word (kind_of v)
-    kind_number NoValue = 0
-known_kind NoValue k s h e = let z : ◌≡◌ {A = ℕ} 0 1 = cc in absurd (omega arith)
+    kind_number : Option Val → ℕ
+    kind_number (Some v) = kind_word (kind_of v)
+    kind_number None = 0
+known_kind None k s h e = let z : ◌≡◌ {A = ℕ} 0 1 = cc in absurd (omega arith)
 
 pub record Says (t : List ℕ) (a : ℕ) (m : Message) : Type 0 where
   pub message : MessageOf t a m
@@ -118,10 +117,10 @@ module _ {t r : List ℕ} (sound : Sound t) (h : RunOf t r) (a : ℕ) (posts : L
     says = record { message = record { count = refl; kind = values_kind }; fits = values_fit }
 
   -- An accepted send says a message of its action, of values that a program holds.
-  pub send_says : Ok (sent_of t run a posts word).answer → Says t a (sent_of t run a posts word).message
+  pub send_says : Accepted (sent_of t run a posts word).answer → Says t a (sent_of t run a posts word).message
   unfolding sent_of said_of is_send
   send_says =
-      let P : Sent → Type 0 = λ s. Ok s.answer → Says t a s.message in
+      let P : Sent → Type 0 = λ s. Accepted s.answer → Says t a s.message in
       rung P _ (refused_send 14 run) _ not_ok
       (λ n. rung P _ (refused_send 7 run) _ not_ok
       (λ e. rung P _ (refused_send 8 run) _ not_ok
@@ -167,33 +166,33 @@ module _ {t : List ℕ} (sound : Sound t) (run : ProgramGraphRun) (a : ℕ) (pos
   -- A receive of a known receive: 7, 8, 5, and no 15.
   pub receive_is : (m : Message) → is_receive t a ≡ true
       → received_of t run a posts m
-      ≡ unless (eqb (length posts) run.processes) (refused_receive 7 run)
-      (unless (ready_still t run a posts) (refused_receive 8 run) (heard_of t run a posts m))
+      ≡ unless (eqb (length posts) run.processes) (refused 7 run)
+      (unless (ready_still t run a posts) (refused 8 run) (heard_of t run a posts m))
   unfolding received_of
   receive_is m receive =
       let kind : is_kind t a receive_kind ≡ true = and_both (lt-ltb _ _ known) (eq-eqb _ _ (receive_kind_lem t a receive)) in
-      sym (passed (refused_receive 15 run) named refl)
-      ∙ ap (λ (s : Received). unless (eqb (length posts) run.processes) (refused_receive 7 run)
-      (unless (ready_still t run a posts) (refused_receive 8 run) s)) (sym (passed (refused_receive 15 run) kind refl))
+      sym (passed (refused 15 run) named refl)
+      ∙ ap (λ (s : RunOutcome). unless (eqb (length posts) run.processes) (refused 7 run)
+      (unless (ready_still t run a posts) (refused 8 run) s)) (sym (passed (refused 15 run) kind refl))
 
   pub receive_not_15 : (m : Message) → is_receive t a ≡ true → Not 15 (received_of t run a posts m).answer
   unfolding heard_of
   receive_not_15 m receive =
       rw (receive_is m receive)
-      (skip (λ (s : Received). s.answer) 15 _ (refused_receive 7 run) _ (λ e. omega arith)
-      (skip (λ (s : Received). s.answer) 15 _ (refused_receive 8 run) _ (λ e. omega arith)
-      (skip (λ (s : Received). s.answer) 15 _ (refused_receive 5 run) _ (λ e. omega arith) (λ e. omega arith))))
+      (skip (λ (s : RunOutcome). s.answer) 15 _ (refused 7 run) _ (λ e. omega arith)
+      (skip (λ (s : RunOutcome). s.answer) 15 _ (refused 8 run) _ (λ e. omega arith)
+      (skip (λ (s : RunOutcome). s.answer) 15 _ (refused 5 run) _ (λ e. omega arith) (λ e. omega arith))))
 
   -- A receive of a message that fits: no 5.
   heard_not_5 : (m : Message) → message_fits t a m ≡ true → Not 5 (heard_of t run a posts m).answer
   unfolding heard_of
-  heard_not_5 m fits = subst (λ (s : Received). Not 5 s.answer) (passed (refused_receive 5 run) fits refl) (λ e. omega arith)
+  heard_not_5 m fits = subst (λ (s : RunOutcome). Not 5 s.answer) (passed (refused 5 run) fits refl) (λ e. omega arith)
 
   pub receive_not_5 : (m : Message) → is_receive t a ≡ true → MessageOf t a m → Not 5 (received_of t run a posts m).answer
   receive_not_5 m receive f =
       rw (receive_is m receive)
-      (skip (λ (s : Received). s.answer) 5 _ (refused_receive 7 run) _ (λ e. omega arith)
-      (skip (λ (s : Received). s.answer) 5 _ (refused_receive 8 run) _ (λ e. omega arith)
+      (skip (λ (s : RunOutcome). s.answer) 5 _ (refused 7 run) _ (λ e. omega arith)
+      (skip (λ (s : RunOutcome). s.answer) 5 _ (refused 8 run) _ (λ e. omega arith)
       (heard_not_5 m (message_fits_lem sound a m known receive f))))
 
   -- A step by a known plain action: no 1, no 13.
@@ -205,10 +204,10 @@ module _ {t : List ℕ} (sound : Sound t) (run : ProgramGraphRun) (a : ℕ) (pos
   pub step_not_13 : (word : ℕ) → is_plain t a ≡ true → Not 13 (step_of t run a posts word).answer
   unfolding step_of autonomous_of plain_of
   step_not_13 word plain =
-      let answer : Stepped → Done = λ s. s.answer in
+      let answer : RunOutcome → (Answer ⊤) = λ s. s.answer in
       skip answer 13 _ (refused 7 run) _ (λ e. omega arith)
       (skip answer 13 _ (refused 3 run) _ (λ e. omega arith)
-      (either_way (λ (s : Stepped). Not 13 s.answer) (eqb a epsilon) _ _
+      (either_way (λ (s : RunOutcome). Not 13 s.answer) (eqb a epsilon) _ _
       (λ i. skip answer 13 _ (refused 8 run) _ (λ e. omega arith) (λ e. omega arith))
       (λ i. rw (acted_is word plain)
       (skip answer 13 _ (refused 8 run) _ (λ e. omega arith)

@@ -1,4 +1,6 @@
 -- A call on a run by value is the call on its words: what was put there, and what comes back over the run.
+use Rattle.graph_tables.specs.Answers.{Answer}
+use Rattle.std.specs.Prelude.{⊤}
 use Prim.Native.Nat.{ℕ, ◌<◌}
 use mathlib.Core.Path.{◌≡◌, ap, ◌∙◌}
 use mathlib.Core.Bool.{true}
@@ -15,41 +17,28 @@ use Rattle.graph_tables.specs.Sizes.{variable_room}
 use Rattle.graph_tables.specs.Words.{variable_count, kind_at}
 use Rattle.graph_tables.specs.RunWords.{places_in, vars_in, clocks_in}
 use Rattle.graph_tables.specs.Sound.{Sound}
-use Rattle.graph_tables.specs.declared.answers.Done.{Done}
 use Rattle.graph_tables.specs.declared.handed.Message.{Message}
 use Rattle.run_steps.proofs.AgreeLaws.{Agree, listing_agree}
 use Rattle.program_graph.specs.Running.{var_fits, counts_same, run_formed, step_of, waited_of, wait_open, waits_on}
 use Rattle.program_graph.specs.Messaging.{sent_of, received_of}
 use Rattle.program_graph.specs.Transitions.{listed}
-use Rattle.program_graph.specs.Inner.{run_at, RunOf, DidStep, DidWait, DidSend, DidReceive, Small, with_vars, over, Stored}
+use Rattle.program_graph.specs.Inner.{run_at, RunOf, DidCall, DidSend, Small, with_vars, over, Stored}
 use Rattle.program_graph.specs.declared.record.ProgramGraphRun.{ProgramGraphRun}
-use Rattle.program_graph.specs.declared.inner.messages.Said.{Said}
-use Rattle.program_graph.specs.declared.answers.Stepped.{Stepped}
-use Rattle.program_graph.specs.declared.answers.Waited.{Waited}
-use Rattle.program_graph.specs.declared.answers.Sent.{Sent}
-use Rattle.program_graph.specs.declared.answers.Received.{Received}
+use Rattle.program_graph.specs.Outcomes.{RunOutcome, Sent, accepts, values_said, sent}
 use Rattle.program_graph.proofs.WordLaws.{vars_length}
 use Rattle.program_graph.proofs.LeaveLaws.{variables_same}
 use Rattle.program_graph.proofs.OverLaws.{step_same, wait_same, send_same, receive_same}
 use Rattle.program_graph.proofs.SmallLaws.{SmallRun, step_small, wait_small, send_small, receive_small}
 
--- ---- answers from their parts
-stepped_is : (s : Stepped) (d : Done) (x : ProgramGraphRun) → d ≡ s.answer → x ≡ s.run → record { answer = d; run = x } ≡ s
-stepped_is s d x e f =
-    ap (λ (y : Done). record { answer = y; run = x }) e ∙ ap (λ (y : ProgramGraphRun). record { answer = s.answer; run = y }) f
+-- ---- outcomes from their parts
+outcome_is : (s : RunOutcome) (d : Answer ⊤) (x : ProgramGraphRun) → d ≡ s.answer → x ≡ s.run → record { answer = d; run = x } ≡ s
+outcome_is s d x e f =
+    ap (λ (y : Answer ⊤). record { answer = y; run = x }) e ∙ ap (λ (y : ProgramGraphRun). record { answer = s.answer; run = y }) f
 
-waited_is : (s : Waited) (d : Done) (x : ProgramGraphRun) → d ≡ s.answer → x ≡ s.run → record { answer = d; run = x } ≡ s
-waited_is s d x e f =
-    ap (λ (y : Done). record { answer = y; run = x }) e ∙ ap (λ (y : ProgramGraphRun). record { answer = s.answer; run = y }) f
-
-received_is : (s : Received) (d : Done) (x : ProgramGraphRun) → d ≡ s.answer → x ≡ s.run → record { answer = d; run = x } ≡ s
-received_is s d x e f =
-    ap (λ (y : Done). record { answer = y; run = x }) e ∙ ap (λ (y : ProgramGraphRun). record { answer = s.answer; run = y }) f
-
-sent_is : (s : Sent) (d : Done) (m : Message) (x : ProgramGraphRun) → d ≡ s.answer → m ≡ s.message → x ≡ s.run
+sent_is : (s : Sent) (d : Answer ⊤) (m : Message) (x : ProgramGraphRun) → d ≡ s.answer → m ≡ s.message → x ≡ s.run
     → record { answer = d; message = m; run = x } ≡ s
 sent_is s d m x e g f =
-    ap (λ (y : Done). record { answer = y; message = m; run = x }) e
+    ap (λ (y : Answer ⊤). record { answer = y; message = m; run = x }) e
     ∙ ap (λ (y : Message). record { answer = s.answer; message = y; run = x }) g
     ∙ ap (λ (y : ProgramGraphRun). record { answer = s.answer; message = s.message; run = y }) f
 
@@ -100,58 +89,58 @@ module _ (t : List ℕ) (run : ProgramGraphRun) (r : List ℕ) (sound : Sound t)
 
   -- ---- one call
   module _ (a : ℕ) (posts : List ℕ) (after : List ℕ) where
-    pub stepped_small : (word : ℕ) (d : Done) → DidStep t r d after (step_of t (run_at r) a posts word)
+    pub stepped_small : (word : ℕ) (d : Answer ⊤) → DidCall t r d after (step_of t (run_at r) a posts word)
         → Small (places_in after) × Small (clocks_in after)
     stepped_small word d did = reads_small after _ did.1.reads (step_small t (run_at r) sound stored_small a posts word)
 
-    pub stepped_back : (word : ℕ) (d : Done) → DidStep t r d after (step_of t (run_at r) a posts word)
+    pub stepped_back : (word : ℕ) (d : Answer ⊤) → DidCall t r d after (step_of t (run_at r) a posts word)
         → record { answer = d; run = over run (run_at after) } ≡ step_of t run a posts word
     stepped_back word d did =
         let x = ap (λ (y : ProgramGraphRun). step_of t y a posts word) s.reads in
         let e = step_same t run vs sound formed same s.sized size a posts word in
-        let answer = did.0 ∙ ap (λ (y : Stepped). y.answer) x ∙ e.answer in
-        let back = ap (over run) (did.1.reads ∙ ap (λ (y : Stepped). y.run) x) ∙ e.back in
-        stepped_is (step_of t run a posts word) d _ answer back
+        let answer = did.0 ∙ ap (λ (y : RunOutcome). y.answer) x ∙ e.answer in
+        let back = ap (over run) (did.1.reads ∙ ap (λ (y : RunOutcome). y.run) x) ∙ e.back in
+        outcome_is (step_of t run a posts word) d _ answer back
 
-    pub sent_small : (word : ℕ) (d : Said) → DidSend t r d after (sent_of t (run_at r) a posts word)
+    pub sent_small : (word : ℕ) (d : Answer Message) → DidSend t r d after (sent_of t (run_at r) a posts word)
         → Small (places_in after) × Small (clocks_in after)
     sent_small word d did = reads_small after _ did.words.reads (send_small t (run_at r) sound stored_small a posts word)
 
-    pub sent_back : (word : ℕ) (d : Said) → DidSend t r d after (sent_of t (run_at r) a posts word)
-        → record { answer = d.answer; message = d.message; run = over run (run_at after) } ≡ sent_of t run a posts word
+    pub sent_back : (word : ℕ) (d : Answer Message) → DidSend t r d after (sent_of t (run_at r) a posts word)
+        → sent d (over run (run_at after)) ≡ sent_of t run a posts word
     sent_back word d did =
         let x = ap (λ (y : ProgramGraphRun). sent_of t y a posts word) s.reads in
         let e = send_same t run vs sound formed same s.sized size a posts word in
         let answer = did.answer ∙ ap (λ (y : Sent). y.answer) x ∙ e.rest.answer in
         let message = did.message ∙ ap (λ (y : Sent). y.message) x ∙ e.message in
         let back = ap (over run) (did.words.reads ∙ ap (λ (y : Sent). y.run) x) ∙ e.rest.back in
-        sent_is (sent_of t run a posts word) d.answer d.message _ answer message back
+        sent_is (sent_of t run a posts word) (accepts d) (values_said d) _ answer message back
 
-    pub received_small : (m : Message) (d : Done) → DidReceive t r d after (received_of t (run_at r) a posts m)
+    pub received_small : (m : Message) (d : Answer ⊤) → DidCall t r d after (received_of t (run_at r) a posts m)
         → Small (places_in after) × Small (clocks_in after)
     received_small m d did = reads_small after _ did.1.reads (receive_small t (run_at r) sound stored_small a posts m)
 
-    pub received_back : (m : Message) (d : Done) → DidReceive t r d after (received_of t (run_at r) a posts m)
+    pub received_back : (m : Message) (d : Answer ⊤) → DidCall t r d after (received_of t (run_at r) a posts m)
         → record { answer = d; run = over run (run_at after) } ≡ received_of t run a posts m
     received_back m d did =
         let x = ap (λ (y : ProgramGraphRun). received_of t y a posts m) s.reads in
         let e = receive_same t run vs sound formed same s.sized size a posts m in
-        let answer = did.0 ∙ ap (λ (y : Received). y.answer) x ∙ e.answer in
-        let back = ap (over run) (did.1.reads ∙ ap (λ (y : Received). y.run) x) ∙ e.back in
-        received_is (received_of t run a posts m) d _ answer back
+        let answer = did.0 ∙ ap (λ (y : RunOutcome). y.answer) x ∙ e.answer in
+        let back = ap (over run) (did.1.reads ∙ ap (λ (y : RunOutcome). y.run) x) ∙ e.back in
+        outcome_is (received_of t run a posts m) d _ answer back
 
-  pub waited_small : (after : List ℕ) (delta : ℕ) (d : Done) → DidWait t r d after (waited_of t (run_at r) delta)
+  pub waited_small : (after : List ℕ) (delta : ℕ) (d : Answer ⊤) → DidCall t r d after (waited_of t (run_at r) delta)
       → Small (places_in after) × Small (clocks_in after)
   waited_small after delta d did = reads_small after _ did.1.reads (wait_small t (run_at r) sound stored_small delta)
 
-  pub waited_back : (after : List ℕ) (delta : ℕ) (d : Done) → DidWait t r d after (waited_of t (run_at r) delta)
+  pub waited_back : (after : List ℕ) (delta : ℕ) (d : Answer ⊤) → DidCall t r d after (waited_of t (run_at r) delta)
       → record { answer = d; run = over run (run_at after) } ≡ waited_of t run delta
   waited_back after delta d did =
       let x = ap (λ (y : ProgramGraphRun). waited_of t y delta) s.reads in
       let e = wait_same t run vs sound formed same s.sized size delta in
-      let answer = did.0 ∙ ap (λ (y : Waited). y.answer) x ∙ e.answer in
-      let back = ap (over run) (did.1.reads ∙ ap (λ (y : Waited). y.run) x) ∙ e.back in
-      waited_is (waited_of t run delta) d _ answer back
+      let answer = did.0 ∙ ap (λ (y : RunOutcome). y.answer) x ∙ e.answer in
+      let back = ap (over run) (did.1.reads ∙ ap (λ (y : RunOutcome). y.run) x) ∙ e.back in
+      outcome_is (waited_of t run delta) d _ answer back
 
   -- ---- what is asked of it
   pub can_wait_back : (delta : ℕ) → wait_open t (run_at r) delta ≡ wait_open t run delta

@@ -1,4 +1,8 @@
 -- When a run is waiting, and when the listing for one process is refused: exactly when.
+use Rattle.graph_tables.specs.Answers.{Answer}
+use Rattle.graph_tables.specs.declared.answers.Entry.{Entry}
+use Rattle.std.specs.declared.option.Option.{Option}
+use Rattle.std.specs.Prelude.{Ok, Err}
 use Prim.Native.Nat.{ℕ}
 use mathlib.Core.Path.{◌≡◌, refl, sym, ap}
 use mathlib.Core.Bool.{Bool, true, false, not, ◌||◌}
@@ -19,8 +23,6 @@ use Rattle.program_graph.specs.Facts.{Due, Awaited}
 use Rattle.program_graph.specs.Running.{fits_table, wait_open, can_wait_of, is_waiting_of}
 use Rattle.program_graph.specs.Transitions.{possible_of, nosync_of}
 use Rattle.program_graph.specs.declared.record.ProgramGraphRun.{ProgramGraphRun}
-use Rattle.program_graph.specs.declared.answers.Held.{Held}
-use Rattle.program_graph.specs.declared.answers.Listed.{Listed}
 
 -- ---- tests
 one_of : (a b : Bool) → (a ≡ true) ⊎ (b ≡ true) → (a || b) ≡ true
@@ -76,7 +78,7 @@ module _ (t clocks places : List ℕ) (n : ℕ) where
           ((shared_by t places n _).1 a.shared))))
 
 -- an answer that something holds
-held_so : (f b : Bool) → (unless f (Held.Refused (refusal 32)) (Held.Is b) ≡ Held.Is true) ↔ ((f ≡ true) × (b ≡ true))
+held_so : (f b : Bool) → (unless f (Err (refusal 32)) (Ok b) ≡ Ok true) ↔ ((f ≡ true) × (b ≡ true))
 unfolding unless
 held_so true true = (λ e. (refl, refl), λ q. refl)
 held_so true false = (λ e. let z : ◌≡◌ {A = ℕ} 0 1 = cc in absurd (omega arith), λ q. never q.1)
@@ -85,8 +87,8 @@ held_so false b = (λ e. let z : ◌≡◌ {A = ℕ} 0 1 = cc in absurd (omega a
 module _ (t : List ℕ) (run : ProgramGraphRun) where
   -- `is_waiting` says yes exactly when a wait of 1 would be accepted and some transition will be open later: one from a process's location,
   -- by an action that every process's location has, some of whose bounds are not met yet and none passed.
-  pub is_waiting_exactly : (is_waiting_of t run ≡ Held.Is true)
-      ↔ ((can_wait_of t run 1 ≡ Held.Is true) × Awaited t run.times run.places run.processes)
+  pub is_waiting_exactly : (is_waiting_of t run ≡ Ok true)
+      ↔ ((can_wait_of t run 1 ≡ Ok true) × Awaited t run.times run.places run.processes)
   unfolding is_waiting_of can_wait_of
   is_waiting_exactly = (
     λ h.
@@ -103,10 +105,10 @@ module _ (t : List ℕ) (run : ProgramGraphRun) where
   pub one_process : (k : ℕ) → run.processes ≡ 1 → nosync_of t run k ≡ possible_of t run k
   unfolding nosync_of possible_of
   one_process k e =
-      ap (λ (rest : Listed). unless (fits_table t run) (Listed.Refused (refusal 32)) rest)
-      (sym (passed (Listed.Refused (refusal 16)) (eq-eqb _ _ e) refl))
+      ap (λ (rest : Answer (Option Entry)). unless (fits_table t run) (Err (refusal 32)) rest)
+      (sym (passed (Err (refusal 16)) (eq-eqb _ _ e) refl))
 
   -- With any other number it refuses with 16.
-  pub not_one_process : (k : ℕ) → fits_table t run ≡ true → (run.processes ≡ 1 → ⊥) → nosync_of t run k ≡ Listed.Refused (refusal 16)
+  pub not_one_process : (k : ℕ) → fits_table t run ≡ true → (run.processes ≡ 1 → ⊥) → nosync_of t run k ≡ Err (refusal 16)
   unfolding nosync_of
-  not_one_process k f n = sym (passed (Listed.Refused (refusal 32)) f (stopped (Listed.Refused (refusal 16)) _ (ne_eqb _ _ n)))
+  not_one_process k f n = sym (passed (Err (refusal 32)) f (stopped (Err (refusal 16)) _ (ne_eqb _ _ n)))

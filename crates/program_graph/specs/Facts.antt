@@ -1,14 +1,12 @@
 -- What the theorems on a run speak of.
-use Rattle.std.specs.Prelude.{ℕ, ◌<◌, ◌≡◌, true, false, ◌⊎◌, List, length, get_or}
+use Rattle.std.specs.Prelude.{ℕ, ◌<◌, ◌≡◌, true, false, ◌⊎◌, List, length, get_or, ⊤}
 use Rattle.time.specs.Time.{in_range, lower_met, upper_met}
 use Rattle.grammar.specs.Evaluation.{evaluation_of}
 use Rattle.grammar.specs.declared.values.Val.{Val}
 use Rattle.grammar.specs.declared.values.Slot.{Slot}
-use Rattle.grammar.specs.declared.evaluation.Evaluated.{Evaluated}
-use Rattle.grammar.specs.declared.evaluation.Evaluated.TheVariants.{Known}
+use Rattle.std.specs.Prelude.{Option, Some}
 use Rattle.graph_tables.specs.Sizes.{process_room, variable_room, clock_room, plain_kind}
-use Rattle.graph_tables.specs.Answers.{done_number}
-use Rattle.graph_tables.specs.declared.answers.Done.{Done}
+use Rattle.graph_tables.specs.Answers.{Answer, answer_number}
 use Rattle.graph_tables.specs.Words.{location_count, action_count, transition_count, invariant_count, action_kind, effect_count, effect_items}
 use Rattle.graph_tables.specs.Words.{key_of, limit_count, pre_of, action_of, post_of, invariant_group, clock_of, limit_range, epsilon}
 use Rattle.run_steps.specs.Steps.{guard_holds, unchanged, effects_below}
@@ -24,12 +22,12 @@ pub record Sized (run : ProgramGraphRun) : Type 0 where
 
 -- ---- answers, by their numbers
 -- it is accepted
-pub record Ok (d : Done) : Type 0 where
-  pub number : done_number d ≡ 0
+pub record Accepted (d : Answer ⊤) : Type 0 where
+  pub number : answer_number d ≡ 0
 
 -- it is not refused with this number
-abbrev pub Not : ℕ → Done → Type 0
-Not n d = done_number d ≡ n → ⊥
+abbrev pub Not : ℕ → Answer ⊤ → Type 0
+Not n d = answer_number d ≡ n → ⊥
 
 -- ---- invariants
 -- each invariant of location l holds on the clocks
@@ -62,7 +60,7 @@ AllPass t run a posts after =
     (p : ℕ) → p < run.processes → (k : ℕ) × Passing t run.vars run.times after (get_or run.places p 0) a (get_or posts p 0) k
 
 -- a call's answer is not that a guard is unsatisfied (8): it gets past its guards
-abbrev pub PastGuards : Done → Type 0
+abbrev pub PastGuards : Answer ⊤ → Type 0
 PastGuards d = Not 8 d
 
 -- ---- what is not refused before the guards
@@ -86,8 +84,8 @@ pub record MessageAsked (t : List ℕ) (run : ProgramGraphRun) (a : ℕ) (posts 
 
 -- ---- effects
 -- an evaluation has a value
-abbrev pub Valued : Evaluated → Type 0
-Valued e = (x : Val) × (e ≡ Known x)
+abbrev pub Valued : Option Val → Type 0
+Valued e = (x : Val) × (e ≡ Some x)
 
 -- each effect of plain action a has a value in its turn: on the variables that the effects before it left, and on what they left of the
 -- word

@@ -1,8 +1,7 @@
 -- Running and building calls one after the other, whatever they answer: a run goes on while its table grows.
 use Rattle.std.specs.Prelude.{ℕ, ◌+◌, Bool, true, false, not, cond, List, [], ◌∷◌, eqb, get_or}
 use Rattle.laws.specs.Below.{◌and◌}
-use Rattle.graph_tables.specs.declared.answers.Placed.{Placed}
-use Rattle.graph_tables.specs.Answers.{placed_number}
+use Rattle.graph_tables.specs.Answers.{Answer, answer_number}
 use Rattle.graph_builder.specs.Building.{new_var_of, new_clock_of, new_process_of, new_initial_of}
 use Rattle.graph_builder.specs.Chains.{Call, new_var, new_clock, new_action, new_process, add_reset, add_effect, new_send, new_receive}
 use Rattle.graph_builder.specs.Chains.{new_timed_location, new_initial_location, add_transition, after, Fits}
@@ -45,8 +44,8 @@ MembersFit (runs call ∷ ms) = MembersFit ms
 MembersFit (builds call ∷ ms) = Fits call × MembersFit ms
 
 -- ---- what a run cannot follow: a process, a variable or a clock more
-abbrev pub is_placed : Placed → Bool
-is_placed p = eqb (placed_number p) 0
+abbrev pub is_placed : Answer ℕ → Bool
+is_placed p = eqb (answer_number p) 0
 
 -- a building call adds one: it is of these four, and accepted
 abbrev pub widens : List ℕ → Call → Bool

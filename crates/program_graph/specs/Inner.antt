@@ -1,5 +1,6 @@
 -- A run in words: the run that they stand for, and what a call leaves in them (docs/LAYOUT.md, 'A run').
-use Rattle.std.specs.Prelude.{ℕ, zero, suc, ◌*◌, ◌<◌, ◌≡◌, Bool, true, cond, List, length, get_or, set, take, drop}
+use Rattle.std.specs.Prelude.{ℕ, zero, suc, ◌*◌, ◌<◌, ◌≡◌, Bool, true, cond, List, length, get_or, set, take, drop, ⊤}
+use Rattle.graph_tables.specs.Answers.{Answer}
 use Rattle.grammar.specs.Evaluation.{blank}
 use Rattle.grammar.specs.Slots.{slots_of}
 use Rattle.grammar.specs.declared.values.Slot.{Slot}
@@ -9,14 +10,8 @@ use Rattle.graph_tables.specs.RunWords.{RunWords, run_places_start, run_processe
 use Rattle.run_steps.specs.Steps.{effected_of}
 use Rattle.run_steps.specs.Inner.{VarWords, VarsLeft}
 use Rattle.program_graph.specs.Running.{run_formed}
-use Rattle.graph_tables.specs.declared.answers.Done.{Done}
-use Rattle.graph_tables.specs.Refusals.{refusal}
-use Rattle.run_steps.specs.Messages.{no_message}
-use Rattle.program_graph.specs.declared.inner.messages.Said.{Said}
-use Rattle.program_graph.specs.declared.answers.Sent.{Sent}
-use Rattle.program_graph.specs.declared.answers.Stepped.{Stepped}
-use Rattle.program_graph.specs.declared.answers.Waited.{Waited}
-use Rattle.program_graph.specs.declared.answers.Received.{Received}
+use Rattle.graph_tables.specs.declared.handed.Message.{Message}
+use Rattle.program_graph.specs.Outcomes.{RunOutcome, Sent, accepts, values_said}
 use Rattle.program_graph.specs.declared.record.ProgramGraphRun.{ProgramGraphRun}
 
 -- the run that words stand for
@@ -47,22 +42,12 @@ pub record Leaves (t before : List ℕ) (run : ProgramGraphRun) (after : List �
   pub spare : drop (2 * variable_count t) (vars_in after) ≡ drop (2 * variable_count t) (vars_in before)
 
 -- a call on a run in words: the answer and the words that it leaves are those of a call on the run by value
-abbrev pub DidStep : List ℕ → List ℕ → Done → List ℕ → Stepped → Type 0
-DidStep t before answer after s = (answer ≡ s.answer) × Leaves t before s.run after
+abbrev pub DidCall : List ℕ → List ℕ → Answer ⊤ → List ℕ → RunOutcome → Type 0
+DidCall t before answer after s = (answer ≡ s.answer) × Leaves t before s.run after
 
-abbrev pub DidWait : List ℕ → List ℕ → Done → List ℕ → Waited → Type 0
-DidWait t before answer after w = (answer ≡ w.answer) × Leaves t before w.run after
-
-abbrev pub DidReceive : List ℕ → List ℕ → Done → List ℕ → Received → Type 0
-DidReceive t before answer after s = (answer ≡ s.answer) × Leaves t before s.run after
-
--- a refused send says nothing
-abbrev pub not_said : ℕ → Said
-not_said n = record { answer = Done.Refused (refusal n); message = no_message }
-
-pub record DidSend (t before : List ℕ) (said : Said) (after : List ℕ) (s : Sent) : Type 0 where
-  pub answer : said.answer ≡ s.answer
-  pub message : said.message ≡ s.message
+pub record DidSend (t before : List ℕ) (said : Answer Message) (after : List ℕ) (s : Sent) : Type 0 where
+  pub answer : accepts said ≡ s.answer
+  pub message : values_said said ≡ s.message
   pub words : Leaves t before s.run after
 
 -- ---- the parts of a run's words

@@ -1,3 +1,4 @@
+pub mod Outcomes
 pub mod Running
 pub mod Messaging
 pub mod Transitions

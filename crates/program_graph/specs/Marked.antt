@@ -1,5 +1,6 @@
 -- Marked examples of one graph; and with those of the crates below, one list.
-use Rattle.std.specs.Prelude.{ℕ, false, List, [], ◌∷◌, map, pos, set, replicate}
+use Rattle.std.specs.Prelude.{ℕ, false, List, [], ◌∷◌, map, pos, set, replicate, Ok}
+use Rattle.grammar.specs.declared.values.Val.{Val}
 use Rattle.laws.specs.Examples.{Examples, end, gives}
 use Rattle.time.specs.Marked.{examples as time-examples}
 use Rattle.time.specs.Time.{range_of}
@@ -13,13 +14,11 @@ use Rattle.grammar.specs.declared.items.Item.TheVariants.{Constant, Variable, Bi
 use Rattle.graph_tables.specs.Layout.{table_words}
 use Rattle.graph_tables.specs.Handed.{no_limits}
 use Rattle.graph_tables.specs.declared.handed.Limits.{Limits}
-use Rattle.graph_tables.specs.Answers.{done_number}
+use Rattle.graph_tables.specs.Answers.{Answer, answer_number}
 use Rattle.graph_builder.specs.Building.{empty_of}
 use Rattle.graph_builder.specs.Chains.{Call, new_var, new_clock, new_action, add_reset, add_effect, new_timed_location}
 use Rattle.graph_builder.specs.Chains.{new_initial_location, add_transition, after_all}
 use Rattle.program_graph.specs.Running.{new_run_of, transition_of, wait_of, value_in}
-use Rattle.program_graph.specs.declared.answers.Value.{Value}
-use Rattle.program_graph.specs.declared.answers.Value.TheVariants.{Is}
 
 -- the examples of two lists
 abbrev pub both : Examples → Examples → Examples
@@ -43,7 +42,7 @@ at_least n = within (Included n) Unbounded
 
 -- what a fresh run of a graph answers to a wait
 abbrev waits : List ℕ → ℕ → ℕ
-waits t delta = done_number (wait_of t (new_run_of t).run delta).answer
+waits t delta = answer_number (wait_of t (new_run_of t).run delta).answer
 
 -- one location, where c <= 5
 abbrev still : List ℕ
@@ -61,7 +60,7 @@ resets = add_reset 0 0 ∷ []
 
 -- what a run of it answers to the step at c = 7
 abbrev enters : List ℕ → ℕ
-enters t = done_number (transition_of t (wait_of t (new_run_of t).run 7).run 0 (1 ∷ []) 0).answer
+enters t = answer_number (transition_of t (wait_of t (new_run_of t).run 7).run 0 (1 ∷ []) 0).answer
 
 -- v and u, both 0, and an action that does v := v + 1, u := v
 abbrev counting : List ℕ
@@ -73,7 +72,7 @@ counting =
     ∷ new_initial_location no_limits ∷ add_transition 0 0 0 false [] no_limits ∷ [])
 
 -- the value of u after a step
-abbrev counted : List ℕ → Value
+abbrev counted : List ℕ → Answer Val
 counted t = value_in t (transition_of t (new_run_of t).run 0 (0 ∷ []) 0).run 1
 
 abbrev pub graph_examples : Examples
@@ -91,7 +90,7 @@ graph_examples =
     -- W6 limit c >= 3, c = 7, same reset: ok
     (gives (enters (entered resets (at_least 3))) 0
     -- W13 v := v + 1, u := v from v = 0: u = 1
-    (gives (counted counting) (Is (Integer (pos 1)))
+    (gives (counted counting) (Ok (Integer (pos 1)))
     end))))))
 
 -- W7 is an example of time ranges, W8 and W9 of expressions

@@ -1,28 +1,27 @@
 -- The graph's own send and receive: the answer, the values, and the run afterwards (docs/RULES.md, 'Messages').
-use Rattle.std.specs.Prelude.{ℕ, not, List, eqb, length}
+use Rattle.std.specs.Prelude.{ℕ, not, List, eqb, length, Err}
+use Rattle.graph_tables.specs.Answers.{admitted}
 use Rattle.laws.specs.Ladder.{unless}
 use Rattle.graph_tables.specs.Sizes.{send_kind, receive_kind}
 use Rattle.graph_tables.specs.Refusals.{refusal}
-use Rattle.graph_tables.specs.declared.answers.Done.TheVariants as Done
 use Rattle.graph_tables.specs.declared.handed.Message.{Message}
 use Rattle.graph_tables.specs.Words.{effect_count, epsilon}
 use Rattle.run_steps.specs.Steps.{is_kind}
 use Rattle.run_steps.specs.Messages.{spoken_of, message_of, no_message, message_fits, taken_of}
-use Rattle.program_graph.specs.Running.{fits_table, ready_still, moved_to}
+use Rattle.program_graph.specs.Running.{refused, accepted, fits_table, ready_still, moved_to}
 use Rattle.program_graph.specs.declared.record.ProgramGraphRun.{ProgramGraphRun}
-use Rattle.program_graph.specs.declared.answers.Sent.{Sent}
-use Rattle.program_graph.specs.declared.answers.Received.{Received}
+use Rattle.program_graph.specs.Outcomes.{Sent, RunOutcome}
 
 -- ---- a send: its values come from the variables as they are; variables and clocks stay
 abbrev pub refused_send : ℕ → ProgramGraphRun → Sent
-refused_send n run = record { answer = Done.Refused (refusal n); message = no_message; run = run }
+refused_send n run = record { answer = Err (refusal n); message = no_message; run = run }
 
 -- 26 if an expression has no value
 unfoldable pub said_of : List ℕ → ProgramGraphRun → ℕ → List ℕ → ℕ → Sent
 said_of t run a posts word =
     unless (spoken_of t a run.vars word).fits (refused_send 26 run)
     record {
-      answer = Done.Accepted;
+      answer = admitted;
       message = message_of (spoken_of t a run.vars word).values (effect_count t a);
       run = moved_to run posts run.vars run.times;
     }
@@ -40,26 +39,20 @@ unfoldable pub send_of : List ℕ → ProgramGraphRun → ℕ → List ℕ → �
 send_of t run a posts word = unless (fits_table t run) (refused_send 32 run) (sent_of t run a posts word)
 
 -- ---- a receive: its variables take the values; clocks stay
-abbrev pub refused_receive : ℕ → ProgramGraphRun → Received
-refused_receive n run = record { answer = Done.Refused (refusal n); run = run }
-
-abbrev pub accepted_receive : ProgramGraphRun → Received
-accepted_receive run = record { answer = Done.Accepted; run = run }
-
 -- 5 unless the message has a value of its kind for each variable
-unfoldable pub heard_of : List ℕ → ProgramGraphRun → ℕ → List ℕ → Message → Received
+unfoldable pub heard_of : List ℕ → ProgramGraphRun → ℕ → List ℕ → Message → RunOutcome
 heard_of t run a posts m =
-    unless (message_fits t a m) (refused_receive 5 run)
-    (accepted_receive (moved_to run posts (taken_of t a m run.vars) run.times))
+    unless (message_fits t a m) (refused 5 run)
+    (accepted (moved_to run posts (taken_of t a m run.vars) run.times))
 
 -- EPSILON first (15); 7, 8, then the kind (15)
-unfoldable pub received_of : List ℕ → ProgramGraphRun → ℕ → List ℕ → Message → Received
+unfoldable pub received_of : List ℕ → ProgramGraphRun → ℕ → List ℕ → Message → RunOutcome
 received_of t run a posts m =
-    unless (not (eqb a epsilon)) (refused_receive 15 run)
-    (unless (eqb (length posts) run.processes) (refused_receive 7 run)
-    (unless (ready_still t run a posts) (refused_receive 8 run)
-    (unless (is_kind t a receive_kind) (refused_receive 15 run)
+    unless (not (eqb a epsilon)) (refused 15 run)
+    (unless (eqb (length posts) run.processes) (refused 7 run)
+    (unless (ready_still t run a posts) (refused 8 run)
+    (unless (is_kind t a receive_kind) (refused 15 run)
     (heard_of t run a posts m))))
 
-unfoldable pub receive_of : List ℕ → ProgramGraphRun → ℕ → List ℕ → Message → Received
-receive_of t run a posts m = unless (fits_table t run) (refused_receive 32 run) (received_of t run a posts m)
+unfoldable pub receive_of : List ℕ → ProgramGraphRun → ℕ → List ℕ → Message → RunOutcome
+receive_of t run a posts m = unless (fits_table t run) (refused 32 run) (received_of t run a posts m)

@@ -1,8 +1,7 @@
 -- Calls on a run one after the other, whatever they answer, and the time since a clock was reset.
-use Rattle.std.specs.Prelude.{ℕ, ◌+◌, ◌≡◌, Bool, true, false, not, cond, List, [], ◌∷◌, eqb}
+use Rattle.std.specs.Prelude.{ℕ, ◌+◌, ◌≡◌, Bool, true, false, not, cond, List, [], ◌∷◌, eqb, ⊤}
 use Rattle.laws.specs.Below.{◌and◌, any_below}
-use Rattle.graph_tables.specs.declared.answers.Done.{Done}
-use Rattle.graph_tables.specs.Answers.{done_number}
+use Rattle.graph_tables.specs.Answers.{Answer, answer_number}
 use Rattle.graph_tables.specs.declared.handed.Message.{Message}
 use Rattle.graph_tables.specs.Words.{reset_count, reset_at, epsilon}
 use Rattle.program_graph.specs.Running.{transition_of, wait_of}
@@ -17,7 +16,7 @@ pub data RunCall : Type 0 where
   receive : ℕ → List ℕ → Message → RunCall
 
 -- what a call answers
-abbrev pub answer_to : List ℕ → ProgramGraphRun → RunCall → Done
+abbrev pub answer_to : List ℕ → ProgramGraphRun → RunCall → Answer ⊤
 answer_to t run (transition a posts word) = (transition_of t run a posts word).answer
 answer_to t run (wait delta) = (wait_of t run delta).answer
 answer_to t run (send a posts word) = (send_of t run a posts word).answer
@@ -36,8 +35,8 @@ run_after_all t run [] = run
 run_after_all t run (call ∷ calls) = run_after_all t (run_after t run call) calls
 
 -- ---- the time since a clock was reset
-abbrev pub is_accepted : Done → Bool
-is_accepted d = eqb (done_number d) 0
+abbrev pub is_accepted : Answer ⊤ → Bool
+is_accepted d = eqb (answer_number d) 0
 
 -- reset i of action a is of clock c
 unfoldable pub reset_is : List ℕ → ℕ → ℕ → ℕ → Bool

@@ -1,6 +1,7 @@
 -- Stepping and waiting of one graph: the answer, and the run afterwards. A refusal gives back the run that came in.
 -- Sections of docs/RULES.md are named where their rule starts.
-use Rattle.std.specs.Prelude.{ℕ, zero, suc, Bool, false, cond, List, eqb, ltb, length, get_or, set, replicate}
+use Rattle.std.specs.Prelude.{ℕ, zero, suc, Bool, false, cond, List, eqb, ltb, length, get_or, set, replicate, Ok, Err}
+use Rattle.graph_tables.specs.Answers.{Answer, admitted}
 use Rattle.laws.specs.Ladder.{unless}
 use Rattle.laws.specs.Below.{◌and◌, all_below}
 use Rattle.grammar.specs.Values.{kind_of, kind_word}
@@ -16,15 +17,8 @@ use Rattle.graph_tables.specs.Words.{action_kind, epsilon}
 use Rattle.graph_tables.specs.Formed.{well_formed}
 use Rattle.run_steps.specs.Waiting.{waiting_of}
 use Rattle.run_steps.specs.Steps.{ready_of, clocks_after, effected_of, placed_below, post_known, clock_fits, shifted_below, place_holds}
-use Rattle.graph_tables.specs.declared.answers.Done.{Done}
 use Rattle.program_graph.specs.declared.record.ProgramGraphRun.{ProgramGraphRun}
-use Rattle.program_graph.specs.declared.answers.Fresh.{Fresh}
-use Rattle.program_graph.specs.declared.answers.Stepped.{Stepped}
-use Rattle.program_graph.specs.declared.answers.Waited.{Waited}
-use Rattle.program_graph.specs.declared.answers.States.{States}
-use Rattle.program_graph.specs.declared.answers.Value.{Value}
-use Rattle.program_graph.specs.declared.answers.Time.{Time}
-use Rattle.program_graph.specs.declared.answers.Held.{Held}
+use Rattle.program_graph.specs.Outcomes.{outcome, RunOutcome, States}
 
 -- ---- 'Bad state': a run is one of the table's
 -- process p is at a location
@@ -47,13 +41,14 @@ run_formed t run =
 unfoldable pub fits_table : List ℕ → ProgramGraphRun → Bool
 fits_table t run = well_formed t false and run_formed t run
 
+-- ---- what a refused call comes to, and an accepted one
+abbrev pub refused : ℕ → ProgramGraphRun → RunOutcome
+refused n run = record { answer = Err (refusal n); run = run }
+
+abbrev pub accepted : ProgramGraphRun → RunOutcome
+accepted run = record { answer = admitted; run = run }
+
 -- ---- 'Stepping one graph'
-abbrev pub refused : ℕ → ProgramGraphRun → Stepped
-refused n run = record { answer = Done.Refused (refusal n); run = run }
-
-abbrev pub accepted : ProgramGraphRun → Stepped
-accepted run = record { answer = Done.Accepted; run = run }
-
 -- every process at its post
 abbrev pub moved_to : ProgramGraphRun → List ℕ → List Slot → List ℕ → ProgramGraphRun
 moved_to run posts vars times =
@@ -71,42 +66,36 @@ abbrev pub ready_still : List ℕ → ProgramGraphRun → ℕ → List ℕ → B
 ready_still t run a posts = ready_of t run.vars run.times run.times run.places run.processes a posts
 
 -- by EPSILON: 8 alone
-unfoldable pub autonomous_of : List ℕ → ProgramGraphRun → List ℕ → Stepped
+unfoldable pub autonomous_of : List ℕ → ProgramGraphRun → List ℕ → RunOutcome
 autonomous_of t run posts =
     unless (ready_still t run epsilon posts) (refused 8 run)
     (accepted (moved_to run posts run.vars run.times))
 
 -- by a plain action: 8, then 26 if an effect has no value
-unfoldable pub plain_of : List ℕ → ProgramGraphRun → ℕ → List ℕ → ℕ → Stepped
+unfoldable pub plain_of : List ℕ → ProgramGraphRun → ℕ → List ℕ → ℕ → RunOutcome
 plain_of t run a posts word =
     unless (ready_of t run.vars run.times (clocks_after t a run.times) run.places run.processes a posts) (refused 8 run)
     (unless (effected_of t a run.vars word).fits (refused 26 run)
     (accepted (moved_to run posts (effected_of t a run.vars word).vars (clocks_after t a run.times))))
 
 -- by any other action: 1 if it is not known, 13 if it is a communication
-unfoldable pub acted_of : List ℕ → ProgramGraphRun → ℕ → List ℕ → ℕ → Stepped
+unfoldable pub acted_of : List ℕ → ProgramGraphRun → ℕ → List ℕ → ℕ → RunOutcome
 acted_of t run a posts word =
     unless (ltb a (action_count t)) (refused 1 run)
     (unless (eqb (action_kind t a) plain_kind) (refused 13 run)
     (plain_of t run a posts word))
 
 -- 7 unless there is a post for each process, 3 for a post that is no location
-unfoldable pub step_of : List ℕ → ProgramGraphRun → ℕ → List ℕ → ℕ → Stepped
+unfoldable pub step_of : List ℕ → ProgramGraphRun → ℕ → List ℕ → ℕ → RunOutcome
 step_of t run a posts word =
     unless (eqb (length posts) run.processes) (refused 7 run)
     (unless (all_below (length posts) (post_known t posts)) (refused 3 run)
     (cond (eqb a epsilon) (autonomous_of t run posts) (acted_of t run a posts word)))
 
-unfoldable pub transition_of : List ℕ → ProgramGraphRun → ℕ → List ℕ → ℕ → Stepped
+unfoldable pub transition_of : List ℕ → ProgramGraphRun → ℕ → List ℕ → ℕ → RunOutcome
 transition_of t run a posts word = unless (fits_table t run) (refused 32 run) (step_of t run a posts word)
 
 -- ---- 'Waiting'
-abbrev pub refused_wait : ℕ → ProgramGraphRun → Waited
-refused_wait n run = record { answer = Done.Refused (refusal n); run = run }
-
-abbrev pub accepted_wait : ProgramGraphRun → Waited
-accepted_wait run = record { answer = Done.Accepted; run = run }
-
 abbrev pub wait_fits : ProgramGraphRun → ℕ → Bool
 wait_fits run delta = all_below run.clocks (clock_fits run.times delta)
 
@@ -125,27 +114,27 @@ later run delta =
     }
 
 -- 26 if a clock would pass the last time, then 9 unless every invariant holds at the end
-unfoldable pub waited_of : List ℕ → ProgramGraphRun → ℕ → Waited
+unfoldable pub waited_of : List ℕ → ProgramGraphRun → ℕ → RunOutcome
 waited_of t run delta =
-    unless (wait_fits run delta) (refused_wait 26 run)
-    (unless (wait_holds t run delta) (refused_wait 9 run) (accepted_wait (later run delta)))
+    unless (wait_fits run delta) (refused 26 run)
+    (unless (wait_holds t run delta) (refused 9 run) (accepted (later run delta)))
 
-unfoldable pub wait_of : List ℕ → ProgramGraphRun → ℕ → Waited
-wait_of t run delta = unless (fits_table t run) (refused_wait 32 run) (waited_of t run delta)
+unfoldable pub wait_of : List ℕ → ProgramGraphRun → ℕ → RunOutcome
+wait_of t run delta = unless (fits_table t run) (refused 32 run) (waited_of t run delta)
 
 -- a wait would be accepted
 abbrev pub wait_open : List ℕ → ProgramGraphRun → ℕ → Bool
 wait_open t run delta = wait_fits run delta and wait_holds t run delta
 
-unfoldable pub can_wait_of : List ℕ → ProgramGraphRun → ℕ → Held
-can_wait_of t run delta = unless (fits_table t run) (Held.Refused (refusal 32)) (Held.Is (wait_open t run delta))
+unfoldable pub can_wait_of : List ℕ → ProgramGraphRun → ℕ → Answer Bool
+can_wait_of t run delta = unless (fits_table t run) (Err (refusal 32)) (Ok (wait_open t run delta))
 
 -- ---- 'is_waiting': a wait of 1 would be accepted, and some transition will be open later
 abbrev pub waits_on : List ℕ → ProgramGraphRun → Bool
 waits_on t run = wait_open t run 1 and waiting_of t run.times run.places run.processes
 
-unfoldable pub is_waiting_of : List ℕ → ProgramGraphRun → Held
-is_waiting_of t run = unless (fits_table t run) (Held.Refused (refusal 32)) (Held.Is (waits_on t run))
+unfoldable pub is_waiting_of : List ℕ → ProgramGraphRun → Answer Bool
+is_waiting_of t run = unless (fits_table t run) (Err (refusal 32)) (Ok (waits_on t run))
 
 -- ---- a fresh run: each process where it starts, variables at their values, clocks at 0
 unfoldable pub start_places : List ℕ → ℕ → List ℕ
@@ -182,23 +171,26 @@ no_run =
       clocks = 0;
     }
 
-unfoldable pub new_run_of : List ℕ → Fresh
-new_run_of t =
-    unless (well_formed t false) (record { answer = Done.Refused (refusal 32); run = no_run })
-    (record { answer = Done.Accepted; run = fresh_run t })
+unfoldable pub new_run_of : List ℕ → RunOutcome
+new_run_of t = unless (well_formed t false) (refused 32 no_run) (accepted (fresh_run t))
+
+-- what making a run comes to: where it is refused there is a run of no graph
+abbrev pub made : Answer ProgramGraphRun → RunOutcome
+made (Ok run) = accepted run
+made (Err r) = outcome (Err r) no_run
 
 -- ---- reading a run: where its processes are, the value of a variable (4), the time of a clock (2)
 unfoldable pub states_of : List ℕ → ProgramGraphRun → States
 states_of t run =
-    unless (fits_table t run) (record { answer = Done.Refused (refusal 32); places = replicate process_room 0; count = 0 })
-    (record { answer = Done.Accepted; places = run.places; count = run.processes })
+    unless (fits_table t run) (record { answer = Err (refusal 32); places = replicate process_room 0; count = 0 })
+    (record { answer = admitted; places = run.places; count = run.processes })
 
-unfoldable pub value_in : List ℕ → ProgramGraphRun → ℕ → Value
+unfoldable pub value_in : List ℕ → ProgramGraphRun → ℕ → Answer Val
 value_in t run v =
-    unless (fits_table t run) (Value.Refused (refusal 32))
-    (unless (ltb v (variable_count t)) (Value.Refused (refusal 4)) (Value.Is (get_or run.vars v blank).value))
+    unless (fits_table t run) (Err (refusal 32))
+    (unless (ltb v (variable_count t)) (Err (refusal 4)) (Ok (get_or run.vars v blank).value))
 
-unfoldable pub time_of : List ℕ → ProgramGraphRun → ℕ → Time
+unfoldable pub time_of : List ℕ → ProgramGraphRun → ℕ → Answer ℕ
 time_of t run c =
-    unless (fits_table t run) (Time.Refused (refusal 32))
-    (unless (ltb c (clock_count t)) (Time.Refused (refusal 2)) (Time.Is (get_or run.times c 0)))
+    unless (fits_table t run) (Err (refusal 32))
+    (unless (ltb c (clock_count t)) (Err (refusal 2)) (Ok (get_or run.times c 0)))

@@ -1,5 +1,7 @@
 -- Listing what a run may do next: entry k, or that k is past the end (docs/RULES.md, 'Listing').
-use Rattle.std.specs.Prelude.{ℕ, List, eqb}
+use Rattle.std.specs.Prelude.{ℕ, List, eqb, Ok, Err, Some, None}
+use Rattle.graph_tables.specs.Answers.{Answer}
+use Rattle.std.specs.declared.option.Option.{Option}
 use Rattle.laws.specs.Ladder.{unless}
 use Rattle.graph_tables.specs.Refusals.{refusal}
 use Rattle.graph_tables.specs.declared.answers.Entry.{Entry}
@@ -8,7 +10,6 @@ use Rattle.run_steps.specs.declared.inner.listing.Sought.{Sought}
 use Rattle.run_steps.specs.declared.inner.listing.Sought.TheVariants.{Found, Left}
 use Rattle.program_graph.specs.Running.{fits_table}
 use Rattle.program_graph.specs.declared.record.ProgramGraphRun.{ProgramGraphRun}
-use Rattle.program_graph.specs.declared.answers.Listed.{Listed}
 
 -- the whole list of a run
 abbrev pub listed : List ℕ → ProgramGraphRun → List Entry
@@ -19,15 +20,15 @@ abbrev pub listed_by : List ℕ → ProgramGraphRun → ℕ → List Entry
 listed_by t run action = shared_entries t run.vars run.times run.places run.processes action
 
 -- past the end of the list there is none
-abbrev pub entry_or_end : Sought → Listed
-entry_or_end (Found e) = Listed.At e
-entry_or_end (Left k) = Listed.End
+abbrev pub entry_or_end : Sought → Answer (Option Entry)
+entry_or_end (Found e) = Ok (Some e)
+entry_or_end (Left k) = Ok None
 
-unfoldable pub possible_of : List ℕ → ProgramGraphRun → ℕ → Listed
-possible_of t run k = unless (fits_table t run) (Listed.Refused (refusal 32)) (entry_or_end (seek (listed t run) k))
+unfoldable pub possible_of : List ℕ → ProgramGraphRun → ℕ → Answer (Option Entry)
+possible_of t run k = unless (fits_table t run) (Err (refusal 32)) (entry_or_end (seek (listed t run) k))
 
 -- 16 unless there is one process
-unfoldable pub nosync_of : List ℕ → ProgramGraphRun → ℕ → Listed
+unfoldable pub nosync_of : List ℕ → ProgramGraphRun → ℕ → Answer (Option Entry)
 nosync_of t run k =
-    unless (fits_table t run) (Listed.Refused (refusal 32))
-    (unless (eqb run.processes 1) (Listed.Refused (refusal 16)) (entry_or_end (seek (listed t run) k)))
+    unless (fits_table t run) (Err (refusal 32))
+    (unless (eqb run.processes 1) (Err (refusal 16)) (entry_or_end (seek (listed t run) k)))

@@ -1,7 +1,11 @@
 -- Laws of messages: one that is sent stands behind the queue, in order; one that is received is what stood at its front.
-use Rattle.std.proofs.Common.{◌≡◌, ℕ, zero, suc, ◌+◌, ◌-◌, ◌<◌, ◌≤◌, List, [], ◌∷◌, ◌++◌, length, get_or, take, drop, set, replicate, sym, refl, ap, ◌∙◌, append_assoc, append-nil, add-one, arith, take-append-drop, length-take-le, get_or-take, take-suc, ext_get_or}
+use Rattle.std.proofs.Common.{◌≡◌, ℕ, zero, suc, ◌+◌, ◌-◌, ◌<◌, ◌≤◌, List, [], ◌∷◌, ◌++◌, length, get_or, take, drop, sym, refl, ap, ◌∙◌, append_assoc, append-nil, arith, take-append-drop, length-take-le, get_or-take, ext_get_or}
+use Rattle.std.proofs.Common.{cond, nat_lt, length-append, Bool, true, false}
+use borrow.Author.Tests.{ltb-true, ltb-false}
 use lib.ListN.{get_or-append}
-use lib.Seq.{set_at, append_snoc}
+use lib.Seq.{get_or-append_right}
+use Rattle.std.proofs.lemmas.List.{get_or-replicate, length-replicate}
+use Rattle.grammar.specs.declared.values.Val.TheVariants.{Boolean}
 use Rattle.grammar.specs.Evaluation.{blank}
 use Rattle.grammar.specs.declared.values.Slot.{Slot}
 use Rattle.graph_tables.specs.Sizes.{message_room}
@@ -54,17 +58,33 @@ module _ (q : List ℕ) (values : List Slot) (f : Counted q) where
       (puts_formed n (omega arith) (λ k l. fit k (omega arith)) g)
 
 -- ---- values read
--- one more value where a blank stood
-pub filled_more : (values : List Slot) (n : ℕ) → n < message_room → n < length values
-    → set (filled_with values n) n (get_or values n blank) ≡ filled_with values (n + 1)
-filled_more values n h l =
-    let e : message_room - n ≡ suc (message_room - (n + 1)) = omega arith in
-    let blanks = replicate (message_room - (n + 1)) blank in
-    ap (λ (k : ℕ). set (take n values ++ replicate k blank) n (get_or values n blank)) e
-    ∙ set_at (take n values) blank blanks (get_or values n blank) n (length-take-le n values (omega arith))
-    ∙ sym (append_snoc (take n values) (get_or values n blank) blanks)
-    ∙ ap (λ (t : List Slot). t ++ blanks) (sym (take-suc values n blank l))
-    ∙ ap (λ (k : ℕ). take k values ++ blanks) (sym (add-one n))
+-- the values that are read, and blanks behind them
+abbrev pub value_or_blank : List Slot → ℕ → ℕ → Slot
+value_or_blank values n k = record { value = cond (nat_lt k n) (get_or values k blank).value (Boolean false) }
+
+module _ (values : List Slot) (n : ℕ) (few : n ≤ length values) where
+  filled_at : (k : ℕ) → k < message_room → value_or_blank values n k ≡ get_or (filled_with values n) k blank
+  filled_at k l = by (nat_lt k n) refl
+    where
+      long : length (take n values) ≡ n
+      long = length-take-le n values few
+
+      by : (t : Bool) → nat_lt k n ≡ t → value_or_blank values n k ≡ get_or (filled_with values n) k blank
+      by true e =
+          let m = ltb-true k n e in
+          rw e (sym (get_or-append (take n values) _ blank k (omega (arith, long)) ∙ get_or-take n values k blank m))
+      by false e =
+          let m : n ≤ k = omega (arith, ltb-false k n e) in
+          rw e
+          (sym
+          (get_or-append_right (take n values) _ k blank (omega (arith, long))
+          ∙ get_or-replicate (message_room - n) (k - length (take n values)) blank blank (omega (arith, long))))
+
+  pub filled_from : (ys : List Slot) → length ys ≡ message_room → n ≤ message_room
+      → ((k : ℕ) (d : Slot) → k < message_room → get_or ys k d ≡ value_or_blank values n k) → ys ≡ filled_with values n
+  filled_from ys e room h =
+      let long : length (filled_with values n) ≡ message_room = simp (length-append, length-replicate, length-take-le) (omega arith) in
+      ext_get_or blank ys (filled_with values n) (e ∙ sym long) (λ k l. h k blank (omega arith) ∙ filled_at k (omega arith))
 
 module _ (q : List ℕ) (w : ℕ) (h : slots_for w ≤ stored_of q) where
   long : length (take (slots_for w) (queue_of q)) ≡ slots_for w

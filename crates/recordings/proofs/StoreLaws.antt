@@ -1,11 +1,14 @@
 -- Runs of stores: one after the other, and what they leave.
-use Prim.Native.Nat.{ℕ, zero, suc, ◌+◌, ◌-◌, ◌*◌, ◌/◌, ◌%◌, ◌<◌}
+use Prim.Native.Nat.{ℕ, zero, suc, ◌+◌, ◌-◌, ◌*◌, ◌/◌, ◌%◌, ◌<◌, ◌≤◌}
 use mathlib.Core.Path.{◌≡◌, refl, sym, ap, ◌∙◌}
 use mathlib.Core.List.{List, [], ◌∷◌, ◌++◌}
 use native.Mathlib.Nat.{not-suc-le-zero}
 use native.Mathlib.Omega.{arith}
-use lib.ListN.{length, get_or, set, replicate}
-use lib.Seq.{sets}
+use lib.ListN.{drop_of_length-le, length, get_or, set}
+use borrow.Rule.Slice.PartMut.{put_mid}
+use lib.Seq.{sets, sets-eq}
+use Rattle.std.proofs.lemmas.List.{append-nil, take_all}
+use Rattle.std.proofs.lemmas.Slice.{put_mid-paste}
 use Rattle.recordings.specs.Numbers.{byte, bytes_of}
 use Rattle.recordings.specs.Writing.{part_of, joined, fields_of}
 use Rattle.recordings.specs.Putting.{front_fields, last_fields}
@@ -18,18 +21,22 @@ sets_append l i [] ys = ap (λ (k : ℕ). sets l k ys) (omega arith)
 sets_append l i (x ∷ xs) ys =
     sets_append (set l i x) (suc i) xs ys ∙ ap (λ (k : ℕ). sets (sets l i (x ∷ xs)) k ys) (omega arith)
 
--- what is left to store of a number, and of zeros, after one byte more
+-- a part of a slice that is written whole
+pub part_written : (l ys vs : List ℕ) (at n : ℕ) → at + n ≤ length l → ys ≡ vs → length vs ≡ n → put_mid at (at + n - at) l ys ≡ sets l at vs
+part_written l ys vs at n h e len =
+    let k : n ≡ at + n - at = omega arith in
+    put_mid-paste at (at + n - at) l ys vs n e k (sym len)
+    ∙ rw (take_all n vs (omega (arith, len)), ← len) (sym (sets-eq vs l at (omega (arith, len))))
+
+pub sets_whole : (l vs : List ℕ) → length vs ≡ length l → sets l 0 vs ≡ vs
+sets_whole l vs e =
+    sets-eq vs l 0 (omega (arith, e)) ∙ rw (drop_of_length-le l {i = 0 + length vs} (omega (arith, e))) (append-nil vs)
+
+-- what is left to store of a number after one byte more
 pub number_store : (l : List ℕ) (at k n x : ℕ) → k < n
     → sets (set l (at + k) (x % byte)) (at + (k + 1)) (bytes_of (n - (k + 1)) (x / byte)) ≡ sets l (at + k) (bytes_of (n - k) x)
 unfolding bytes_of
 number_store l at k n x h =
-    let e : n - k ≡ suc (n - (k + 1)) = omega arith in
-    let s : at + (k + 1) ≡ suc (at + k) = omega arith in
-    rw (e, s) refl
-
-pub zero_store : (l : List ℕ) (at k n : ℕ) → k < n
-    → sets (set l (at + k) 0) (at + (k + 1)) (replicate (n - (k + 1)) 0) ≡ sets l (at + k) (replicate (n - k) 0)
-zero_store l at k n h =
     let e : n - k ≡ suc (n - (k + 1)) = omega arith in
     let s : at + (k + 1) ≡ suc (at + k) = omega arith in
     rw (e, s) refl

@@ -24,6 +24,7 @@ fn sum(b: &[u8]) -> u64
     requires { length b.now ≡ block_bytes }
     ensures { result ≡ sum_of b.now }
 {
+    // The index is the weight, so `enumerate` would be no plainer.
     let mut total: u64 = 0;
     for i in 0..layout::SUM {
         total += b[i] as u64 * (i as u64 + 1);
@@ -57,12 +58,7 @@ fn good_slots(b: &[u8]) -> bool
     requires { length b.now ≡ block_bytes }
     ensures { result ≡ all_below record_room (good_slot b.now) }
 {
-    for i in 0..layout::RECORDS {
-        if !good_slot(b, i) {
-            return false;
-        }
-    }
-    true
+    (0..layout::RECORDS).all(|i| good_slot(b, i))
 }
 
 // Whether these bytes are a good block at this place of a recording.

@@ -1,4 +1,4 @@
-// A record written into a block.
+// A record written into a block. The parts of a step are parameters one by one, as C hands them in (C interface).
 ghost use Rattle.std.specs.Prelude.{◌≡◌};
 ghost use Rattle.recordings.specs.Records.{step, wait};
 ghost use Rattle.recordings.specs.Putting.{put_of};

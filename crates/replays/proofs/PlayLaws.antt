@@ -1,4 +1,8 @@
 -- One record more, one block more, and that the state stays one of the table's.
+use Rattle.replays.specs.declared.answers.ReplayError.{ReplayError}
+use Rattle.std.specs.declared.result.Result.{Result}
+use Rattle.std.specs.Result.{is_ok}
+use Rattle.std.specs.Prelude.{Ok, Err, ⊤}
 use Prim.Native.Nat.{ℕ, zero, suc, ◌+◌, ◌-◌, ◌*◌, ◌≤◌, ◌<◌}
 use mathlib.Core.Path.{◌≡◌, refl, sym, ap, ◌∙◌}
 use mathlib.Core.Bool.{Bool, true, false, cond}
@@ -12,8 +16,9 @@ use Rattle.laws.proofs.Ladder.{passed, stopped, rung}
 use Rattle.laws.proofs.BelowLaws.{and_first}
 use Rattle.graph_tables.specs.Sizes.{word32}
 use Rattle.program_graph.proofs.RunLaws.{either_way}
+use Rattle.graph_tables.specs.Answers.{Answer, answer_number}
 use Rattle.graph_tables.specs.Refusals.{refusal}
-use Rattle.channel_system.specs.Steps.{system_fits, moved_of, transition_of}
+use Rattle.channel_system.specs.Steps.{carrying, system_fits, moved_of, transition_of}
 use Rattle.channel_system.proofs.FittingLaws.{fits_state}
 use Rattle.channel_system.proofs.SystemChains.{call_sound, step_inner}
 use Rattle.recordings.specs.Numbers.{row}
@@ -21,7 +26,6 @@ use Rattle.recordings.specs.Records.{Entry, recorded_in}
 use Rattle.recordings.specs.Layout.{record_room}
 use Rattle.recordings.specs.Blocks.{count_in, entry_at, entries_of, block_at, last_at, good_block, good_at}
 use Rattle.recordings.proofs.BlockLaws.{good_parts}
-use Rattle.replays.specs.declared.answers.Replayed.TheVariants.{Finished, BadBlock, Refused}
 use Rattle.replays.specs.Facts.{Ready}
 use Rattle.replays.specs.Replay.{post_words, call_of, given_to, after_entry, Played, played, differs_at, records_played, block_played}
 use Rattle.replays.specs.Replay.{is_finished, stepped_by, go_on, blocks_played, all_played, or_undone, replay_of}
@@ -50,6 +54,11 @@ row_end f i n l =
 pub after_ready : (t s : List ℕ) → Ready t s → (e : Entry) → Ready t (after_entry t s e)
 after_ready t s h e = record { table = h.table; state = call_sound t h.table s h.state (call_of e) }
 
+-- ---- the number of an answer is the same with what was asked for
+pub carried_number : {A : Type 0} (d : Answer ⊤) (x : A) → answer_number (carrying d x) ≡ answer_number d
+carried_number (Ok _) x = refl
+carried_number (Err r) x = refl
+
 -- ---- a step that is made of a record is the public one
 pub step_made : (t s : List ℕ) → Ready t s → (g a : ℕ) (ps : List ℕ) (w : ℕ) {a' : ℕ} {ps' : List ℕ} {w' : ℕ}
     → a' ≡ a → ps' ≡ ps → w' ≡ w → moved_of t s g g a' ps' w' ≡ transition_of t s g g a ps w
@@ -60,7 +69,7 @@ step_made t s h g a ps w {ps' = ps'} {w' = w'} p q r =
 
 -- ---- records
 module _ (t s : List ℕ) (b i done : ℕ) where
-  pub records_end : records_played t s b i done [] ≡ played (Finished done) s
+  pub records_end : records_played t s b i done [] ≡ played (Ok done) s
   unfolding records_played
   records_end = refl
 
@@ -104,7 +113,7 @@ module _ (t : List ℕ) (b done : ℕ) (f : ℕ → Entry) (n : ℕ) where
         ap (records_played t s b i (done + i)) (row_next f i n l)
         ∙ records_differ t s b i (done + i) (f i) (row f (i + 1) (n - (i + 1))) (ne_eqb _ _ h)
 
-    pub records_over : n ≤ i → records_played t s b i (done + i) (row f i (n - i)) ≡ played (Finished (done + i)) s
+    pub records_over : n ≤ i → records_played t s b i (done + i) (row f i (n - i)) ≡ played (Ok (done + i)) s
     records_over l = ap (records_played t s b i (done + i)) (row_end f i n l) ∙ records_end t s b i (done + i)
 
 -- the answer and the state of a difference, as they are found
@@ -156,17 +165,17 @@ block_tested bytes b =
 module _ (t s bytes : List ℕ) (b done : ℕ) where
   pub block_good : good_at bytes b ≡ true → block_played t s bytes b done ≡ records_played t s b 0 done (entries_of (block_at bytes b))
   unfolding block_played
-  block_good h = sym (passed (played (BadBlock b) s) h refl)
+  block_good h = sym (passed (played (Err (ReplayError.BadBlock b)) s) h refl)
 
-  pub block_bad : good_at bytes b ≡ false → block_played t s bytes b done ≡ played (BadBlock b) s
+  pub block_bad : good_at bytes b ≡ false → block_played t s bytes b done ≡ played (Err (ReplayError.BadBlock b)) s
   unfolding block_played
-  block_bad h = sym (stopped (played (BadBlock b) s) _ h)
+  block_bad h = sym (stopped (played (Err (ReplayError.BadBlock b)) s) _ h)
 
   pub block_keeps : (P : List ℕ → Type 0) → ((u : List ℕ) → P u → (e : Entry) → P (after_entry t u e)) → P s
       → P (block_played t s bytes b done).state
   unfolding block_played
   block_keeps P one h =
-      rung (λ (p : Played). P p.state) (good_at bytes b) (played (BadBlock b) s) _ h
+      rung (λ (p : Played). P p.state) (good_at bytes b) (played (Err (ReplayError.BadBlock b)) s) _ h
       (λ g. records_keep P t one s h b 0 done (entries_of (block_at bytes b)))
 
   -- it steps no more records than there is room for
@@ -175,7 +184,7 @@ module _ (t s bytes : List ℕ) (b done : ℕ) where
   unfolding block_played
   block_few =
       rung (λ (p : Played). is_finished p.answer ≡ true → stepped_by p.answer ≤ done + record_room) (good_at bytes b)
-      (played (BadBlock b) s) _ (λ h. never h)
+      (played (Err (ReplayError.BadBlock b)) s) _ (λ h. never h)
       (λ g h. omega (
         arith,
         records_count t s b 0 done (entries_of (block_at bytes b)) h,
@@ -214,7 +223,7 @@ module _ (t bytes : List ℕ) (n : ℕ) where
         ∙ ap (λ (x : Bool). cond x (blocks_played t (block_played t s bytes b done).state bytes (b + 1)
         (stepped_by (block_played t s bytes b done).answer) (n - (b + 1))) (block_played t s bytes b done)) h
 
-    pub blocks_over : n ≤ b → blocks_played t s bytes b done (n - b) ≡ played (Finished done) s
+    pub blocks_over : n ≤ b → blocks_played t s bytes b done (n - b) ≡ played (Ok done) s
     unfolding blocks_played
     blocks_over l =
         let e : n - b ≡ 0 = omega arith in
@@ -241,11 +250,16 @@ fits_ready t s h = record { table = and_first _ _ h; state = fits_state t s h }
 
 pub replay_known : (t s bytes : List ℕ) → system_fits t s ≡ true → replay_of t s bytes ≡ or_undone s (all_played t s bytes)
 unfolding replay_of
-replay_known t s bytes h = sym (passed (played (Refused (refusal 32)) s) h refl)
+replay_known t s bytes h = sym (passed (played (Err (ReplayError.Refused (refusal 32))) s) h refl)
 
-pub replay_unknown : (t s bytes : List ℕ) → system_fits t s ≡ false → replay_of t s bytes ≡ played (Refused (refusal 32)) s
+pub replay_unknown : (t s bytes : List ℕ) → system_fits t s ≡ false → replay_of t s bytes ≡ played (Err (ReplayError.Refused (refusal 32))) s
 unfolding replay_of
-replay_unknown t s bytes h = sym (stopped (played (Refused (refusal 32)) s) _ h)
+replay_unknown t s bytes h = sym (stopped (played (Err (ReplayError.Refused (refusal 32))) s) _ h)
+
+-- a replay finished where it is ok
+pub finished_ok : (r : Result ℕ ReplayError) → is_ok r ≡ is_finished r
+finished_ok (Ok n) = refl
+finished_ok (Err e) = refl
 
 pub finished_state : (s : List ℕ) (p : Played) → is_finished p.answer ≡ true → (or_undone s p).state ≡ p.state
 finished_state s p h = ap (λ (x : Bool). cond x p.state s) h

@@ -1,4 +1,7 @@
 -- What a walk of records, and one of blocks, says when it ends.
+use Rattle.replays.specs.declared.answers.ReplayError.{ReplayError}
+use Rattle.std.specs.declared.result.Result.{Result}
+use Rattle.std.specs.Prelude.{Ok, Err}
 use Prim.Native.Nat.{ℕ, zero, suc, ◌+◌, ◌<◌}
 use mathlib.Core.Path.{◌≡◌, refl, sym, ap, ◌∙◌, subst}
 use mathlib.Core.Bool.{Bool, true, false}
@@ -12,8 +15,6 @@ use Rattle.program_graph.proofs.RunLaws.{either_way}
 use Rattle.recordings.specs.Records.{Entry, recorded_in}
 use Rattle.recordings.specs.Blocks.{entries_of, block_at, good_at, entries_from}
 use Rattle.replays.specs.declared.answers.Difference.{Difference}
-use Rattle.replays.specs.declared.answers.Replayed.{Replayed}
-use Rattle.replays.specs.declared.answers.Replayed.TheVariants.{Finished, BadBlock, Differs, Refused}
 use Rattle.replays.specs.Replay.{given_to, after_entry, Played, is_finished, stepped_by, records_played, block_played, go_on}
 use Rattle.replays.specs.Replay.{blocks_played}
 use Rattle.replays.specs.Recorded.{after_all, Agreed}
@@ -42,18 +43,18 @@ pub record Named (t s : List ℕ) (b i : ℕ) (es : List Entry) (d : Difference)
   pub given : d.given ≡ given_to t (after_all t s earlier) named
   pub differ : d.given ≡ d.recorded → ⊥
 
-abbrev pub RecordsSay : List ℕ → List ℕ → ℕ → ℕ → ℕ → List Entry → Replayed → List ℕ → Type 0
-RecordsSay t s b i done es (Finished n) u = Agreed t s es × (n ≡ done + length es) × (u ≡ after_all t s es)
-RecordsSay t s b i done es (BadBlock k) u = ⊥
-RecordsSay t s b i done es (Differs d) u = Named t s b i es d
-RecordsSay t s b i done es (Refused r) u = ⊥
+abbrev pub RecordsSay : List ℕ → List ℕ → ℕ → ℕ → ℕ → List Entry → Result ℕ ReplayError → List ℕ → Type 0
+RecordsSay t s b i done es (Ok n) u = Agreed t s es × (n ≡ done + length es) × (u ≡ after_all t s es)
+RecordsSay t s b i done es (Err (ReplayError.BadBlock k)) u = ⊥
+RecordsSay t s b i done es (Err (ReplayError.Differs d)) u = Named t s b i es d
+RecordsSay t s b i done es (Err (ReplayError.Refused r)) u = ⊥
 
 -- one record more in front, that answers as recorded
-one_before : (t s : List ℕ) (b i done : ℕ) (e : Entry) (es : List Entry) → given_to t s e ≡ recorded_in e → (r : Replayed) (u : List ℕ)
+one_before : (t s : List ℕ) (b i done : ℕ) (e : Entry) (es : List Entry) → given_to t s e ≡ recorded_in e → (r : Result ℕ ReplayError) (u : List ℕ)
     → RecordsSay t (after_entry t s e) b (i + 1) (done + 1) es r u → RecordsSay t s b i done (e ∷ es) r u
-one_before t s b i done e es h (Finished n) u k = ((h, k.0), omega (arith, k.1), k.2)
-one_before t s b i done e es h (BadBlock n) u k = k
-one_before t s b i done e es h (Differs d) u k =
+one_before t s b i done e es h (Ok n) u k = ((h, k.0), omega (arith, k.1), k.2)
+one_before t s b i done e es h (Err (ReplayError.BadBlock n)) u k = k
+one_before t s b i done e es h (Err (ReplayError.Differs d)) u k =
     record {
       block = k.block;
       earlier = e ∷ k.earlier;
@@ -66,7 +67,7 @@ one_before t s b i done e es h (Differs d) u k =
       given = k.given;
       differ = k.differ;
     }
-one_before t s b i done e es h (Refused r) u k = k
+one_before t s b i done e es h (Err (ReplayError.Refused r)) u k = k
 
 pub records_say : (t s : List ℕ) (b i done : ℕ) (es : List Entry)
     → RecordsSay t s b i done es (records_played t s b i done es).answer (records_played t s b i done es).state
@@ -124,30 +125,30 @@ pub record DiffersFrom (t s bytes : List ℕ) (b n : ℕ) (d : Difference) : Typ
   pub given : d.given ≡ given_to t (after_all t s (entries_from bytes b past ++ earlier)) named
   pub differ : d.given ≡ d.recorded → ⊥
 
-abbrev pub BlocksSay : List ℕ → List ℕ → List ℕ → ℕ → ℕ → ℕ → Replayed → List ℕ → Type 0
-BlocksSay t s bytes b done n (Finished m) u =
+abbrev pub BlocksSay : List ℕ → List ℕ → List ℕ → ℕ → ℕ → ℕ → Result ℕ ReplayError → List ℕ → Type 0
+BlocksSay t s bytes b done n (Ok m) u =
     Goods bytes b n × Agreed t s (entries_from bytes b n) × (m ≡ done + length (entries_from bytes b n))
     × (u ≡ after_all t s (entries_from bytes b n))
-BlocksSay t s bytes b done n (BadBlock k) u = BadFrom t s bytes b n k
-BlocksSay t s bytes b done n (Differs d) u = DiffersFrom t s bytes b n d
-BlocksSay t s bytes b done n (Refused r) u = ⊥
+BlocksSay t s bytes b done n (Err (ReplayError.BadBlock k)) u = BadFrom t s bytes b n k
+BlocksSay t s bytes b done n (Err (ReplayError.Differs d)) u = DiffersFrom t s bytes b n d
+BlocksSay t s bytes b done n (Err (ReplayError.Refused r)) u = ⊥
 
 -- a walk of records that finished
-all_agreed : (t s : List ℕ) (b i done : ℕ) (es : List Entry) (r : Replayed) (u : List ℕ) → is_finished r ≡ true
+all_agreed : (t s : List ℕ) (b i done : ℕ) (es : List Entry) (r : Result ℕ ReplayError) (u : List ℕ) → is_finished r ≡ true
     → RecordsSay t s b i done es r u → Agreed t s es × (stepped_by r ≡ done + length es) × (u ≡ after_all t s es)
-all_agreed t s b i done es (Finished n) u f k = k
-all_agreed t s b i done es (BadBlock n) u f k = never f
-all_agreed t s b i done es (Differs d) u f k = never f
-all_agreed t s b i done es (Refused r) u f k = never f
+all_agreed t s b i done es (Ok n) u f k = k
+all_agreed t s b i done es (Err (ReplayError.BadBlock n)) u f k = never f
+all_agreed t s b i done es (Err (ReplayError.Differs d)) u f k = never f
+all_agreed t s b i done es (Err (ReplayError.Refused r)) u f k = never f
 
 module _ (t s bytes : List ℕ) (b done n : ℕ) (h : good_at bytes b ≡ true) where
   -- one that found a difference
-  found_here : (r : Replayed) (u : List ℕ) → is_finished r ≡ false → RecordsSay t s b 0 done (entries_of (block_at bytes b)) r u
+  found_here : (r : Result ℕ ReplayError) (u : List ℕ) → is_finished r ≡ false → RecordsSay t s b 0 done (entries_of (block_at bytes b)) r u
       → BlocksSay t s bytes b done (suc n) r u
   unfolding entries_from
-  found_here (Finished m) u f k = never (sym f)
-  found_here (BadBlock m) u f k = absurd k
-  found_here (Differs d) u f k =
+  found_here (Ok m) u f k = never (sym f)
+  found_here (Err (ReplayError.BadBlock m)) u f k = absurd k
+  found_here (Err (ReplayError.Differs d)) u f k =
       record {
         past = 0;
         there = omega arith;
@@ -163,18 +164,18 @@ module _ (t s bytes : List ℕ) (b done n : ℕ) (h : good_at bytes b ≡ true) 
         given = k.given;
         differ = k.differ;
       }
-  found_here (Refused m) u f k = absurd k
+  found_here (Err (ReplayError.Refused m)) u f k = absurd k
 
   -- a good block in front, whose records answer as recorded
-  block_before : Agreed t s (entries_of (block_at bytes b)) → (r : Replayed) (u : List ℕ)
+  block_before : Agreed t s (entries_of (block_at bytes b)) → (r : Result ℕ ReplayError) (u : List ℕ)
       → BlocksSay t (after_all t s (entries_of (block_at bytes b))) bytes (b + 1) (done + length (entries_of (block_at bytes b))) n r u
       → BlocksSay t s bytes b done (suc n) r u
   unfolding entries_from
-  block_before a (Finished m) u k =
+  block_before a (Ok m) u k =
       let es = entries_of (block_at bytes b) in
       let rest = entries_from bytes (b + 1) n in
       ((h, k.0), agreed_append t s es rest a k.1, omega (arith, k.2, length-append es rest), k.3 ∙ sym (after_append t s es rest))
-  block_before a (BadBlock m) u k =
+  block_before a (Err (ReplayError.BadBlock m)) u k =
       let es = entries_of (block_at bytes b) in
       record {
         past = suc k.past;
@@ -184,7 +185,7 @@ module _ (t s bytes : List ℕ) (b done n : ℕ) (h : good_at bytes b ≡ true) 
         agreed = agreed_append t s es (entries_from bytes (b + 1) k.past) a k.agreed;
         bad = k.bad;
       }
-  block_before a (Differs d) u k =
+  block_before a (Err (ReplayError.Differs d)) u k =
       let es = entries_of (block_at bytes b) in
       let rest = entries_from bytes (b + 1) k.past in
       let joined = append_assoc es rest k.earlier in
@@ -204,9 +205,9 @@ module _ (t s bytes : List ℕ) (b done n : ℕ) (h : good_at bytes b ≡ true) 
             (sym (after_append t s es (rest ++ k.earlier)) ∙ ap (λ (l : List Entry). after_all t s l) (sym joined));
         differ = k.differ;
       }
-  block_before a (Refused m) u k = k
+  block_before a (Err (ReplayError.Refused m)) u k = k
 
-bad_here : (t s bytes : List ℕ) (b done n : ℕ) → good_at bytes b ≡ false → BlocksSay t s bytes b done (suc n) (BadBlock b) s
+bad_here : (t s bytes : List ℕ) (b done n : ℕ) → good_at bytes b ≡ false → BlocksSay t s bytes b done (suc n) (Err (ReplayError.BadBlock b)) s
 unfolding entries_from
 bad_here t s bytes b done n h =
     record { past = 0; there = omega arith; place = omega arith; good = tt; agreed = tt; bad = h }

@@ -1,13 +1,13 @@
 -- What the theorems on replays speak of: the calls that a recording reads as, made one after the other.
-use Rattle.std.specs.Prelude.{ℕ, ◌<◌, ◌≤◌, ◌≡◌, true, false, List, [], ◌∷◌, ◌++◌, length}
+use Rattle.std.specs.Prelude.{ℕ, ◌<◌, ◌≤◌, ◌≡◌, true, false, List, [], ◌∷◌, ◌++◌, length, Ok, Err}
+use Rattle.replays.specs.declared.answers.ReplayError.{ReplayError}
+use Rattle.std.specs.declared.result.Result.{Result}
 use Rattle.graph_tables.specs.Refusals.{refusal}
 use Rattle.channel_system.specs.Steps.{system_fits}
 use Rattle.channel_system.specs.Chains.{Call, state_after_all}
 use Rattle.recordings.specs.Records.{Entry, recorded_in}
 use Rattle.recordings.specs.Blocks.{entries_of, blocks_in, block_at, good_at, entries_from, entries_in}
 use Rattle.replays.specs.declared.answers.Difference.{Difference}
-use Rattle.replays.specs.declared.answers.Replayed.{Replayed}
-use Rattle.replays.specs.declared.answers.Replayed.TheVariants.{Finished, BadBlock, Differs, Refused}
 use Rattle.replays.specs.Replay.{call_of, given_to, after_entry}
 
 -- the calls of records, and the state after them
@@ -52,8 +52,8 @@ pub record DiffersFirst (t s bytes : List ℕ) (d : Difference) : Type 0 where
   pub differ : d.given ≡ d.recorded → ⊥
 
 -- what a replay says, and that a finding leaves every word
-abbrev pub Says : List ℕ → List ℕ → List ℕ → Replayed → List ℕ → Type 0
-Says t s bytes (Finished n) u = FinishedAs t s bytes n u
-Says t s bytes (BadBlock k) u = (u ≡ s) × BadAt t s bytes k
-Says t s bytes (Differs d) u = (u ≡ s) × DiffersFirst t s bytes d
-Says t s bytes (Refused r) u = (u ≡ s) × (r ≡ refusal 32) × (system_fits t s ≡ false)
+abbrev pub Says : List ℕ → List ℕ → List ℕ → Result ℕ ReplayError → List ℕ → Type 0
+Says t s bytes (Ok n) u = FinishedAs t s bytes n u
+Says t s bytes (Err (ReplayError.BadBlock k)) u = (u ≡ s) × BadAt t s bytes k
+Says t s bytes (Err (ReplayError.Differs d)) u = (u ≡ s) × DiffersFirst t s bytes d
+Says t s bytes (Err (ReplayError.Refused r)) u = (u ≡ s) × (r ≡ refusal 32) × (system_fits t s ≡ false)

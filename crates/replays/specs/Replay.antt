@@ -1,5 +1,7 @@
 -- A replay of a recording (docs/RULES.md, 'Recordings'): the answer, and the state afterwards. It speaks of the public calls alone.
-use Rattle.std.specs.Prelude.{ℕ, zero, suc, ◌+◌, ◌*◌, Bool, true, false, cond, List, [], ◌∷◌, eqb, length}
+use Rattle.std.specs.Prelude.{ℕ, zero, suc, ◌+◌, ◌*◌, Bool, true, false, cond, List, [], ◌∷◌, eqb, length, Ok, Err}
+use Rattle.replays.specs.declared.answers.ReplayError.{ReplayError}
+use Rattle.std.specs.declared.result.Result.{Result}
 use Rattle.laws.specs.Ladder.{unless}
 use Rattle.graph_tables.specs.Sizes.{word32}
 use Rattle.graph_tables.specs.Refusals.{refusal}
@@ -8,8 +10,6 @@ use Rattle.channel_system.specs.Chains as Chains
 use Rattle.channel_system.specs.Chains.{Call, answer_to, state_after}
 use Rattle.recordings.specs.Records.{Entry, step, wait, recorded_in}
 use Rattle.recordings.specs.Blocks.{entries_of, blocks_in, block_at, good_at}
-use Rattle.replays.specs.declared.answers.Replayed.{Replayed}
-use Rattle.replays.specs.declared.answers.Replayed.TheVariants.{Finished, BadBlock, Differs, Refused}
 
 -- ---- a record as a call: its graph is that of the action and of each post
 unfoldable pub post_words : ℕ → List ℕ → List ℕ
@@ -29,32 +29,28 @@ after_entry t s e = state_after t s (call_of e)
 
 -- ---- an answer, and the state at which the replay stands
 pub record Played : Type 0 where
-  pub answer : Replayed
+  pub answer : Result ℕ ReplayError
   pub state : List ℕ
 
-abbrev pub played : Replayed → List ℕ → Played
+abbrev pub played : Result ℕ ReplayError → List ℕ → Played
 played r s = record { answer = r; state = s }
 
 -- whether it finished, and how many records were stepped then
-abbrev pub is_finished : Replayed → Bool
-is_finished (Finished n) = true
-is_finished (BadBlock b) = false
-is_finished (Differs d) = false
-is_finished (Refused r) = false
+abbrev pub is_finished : Result ℕ ReplayError → Bool
+is_finished (Ok n) = true
+is_finished (Err e) = false
 
-abbrev pub stepped_by : Replayed → ℕ
-stepped_by (Finished n) = n
-stepped_by (BadBlock b) = 0
-stepped_by (Differs d) = 0
-stepped_by (Refused r) = 0
+abbrev pub stepped_by : Result ℕ ReplayError → ℕ
+stepped_by (Ok n) = n
+stepped_by (Err e) = 0
 
 -- record i of block b has answered otherwise than it says
-abbrev pub differs_at : ℕ → ℕ → ℕ → ℕ → Replayed
-differs_at b i recorded given = Differs (record { block = b; entry = i; recorded = recorded; given = given })
+abbrev pub differs_at : ℕ → ℕ → ℕ → ℕ → Result ℕ ReplayError
+differs_at b i recorded given = Err (ReplayError.Differs (record { block = b; entry = i; recorded = recorded; given = given }))
 
 -- ---- the records of block b from record i on, so many having answered as recorded before: up to the first that does not
 unfoldable pub records_played : List ℕ → List ℕ → ℕ → ℕ → ℕ → List Entry → Played
-records_played t s b i done [] = played (Finished done) s
+records_played t s b i done [] = played (Ok done) s
 records_played t s b i done (e ∷ es) =
     cond (eqb (given_to t s e) (recorded_in e))
     (records_played t (after_entry t s e) b (i + 1) (done + 1) es)
@@ -63,7 +59,7 @@ records_played t s b i done (e ∷ es) =
 -- ---- block b: it is tested whole before any of its records is stepped
 unfoldable pub block_played : List ℕ → List ℕ → List ℕ → ℕ → ℕ → Played
 block_played t s bytes b done =
-    unless (good_at bytes b) (played (BadBlock b) s) (records_played t s b 0 done (entries_of (block_at bytes b)))
+    unless (good_at bytes b) (played (Err (ReplayError.BadBlock b)) s) (records_played t s b 0 done (entries_of (block_at bytes b)))
 
 -- a finding ends it
 abbrev pub go_on : Played → (ℕ → List ℕ → Played) → Played
@@ -71,7 +67,7 @@ go_on p next = cond (is_finished p.answer) (next (stepped_by p.answer) p.state) 
 
 -- ---- n blocks from block b on
 unfoldable pub blocks_played : List ℕ → List ℕ → List ℕ → ℕ → ℕ → ℕ → Played
-blocks_played t s bytes b done zero = played (Finished done) s
+blocks_played t s bytes b done zero = played (Ok done) s
 blocks_played t s bytes b done (suc n) = go_on (block_played t s bytes b done) (λ m u. blocks_played t u bytes (b + 1) m n)
 
 abbrev pub all_played : List ℕ → List ℕ → List ℕ → Played
@@ -82,4 +78,4 @@ abbrev pub or_undone : List ℕ → Played → Played
 or_undone s p = played p.answer (cond (is_finished p.answer) p.state s)
 
 unfoldable pub replay_of : List ℕ → List ℕ → List ℕ → Played
-replay_of t s bytes = unless (system_fits t s) (played (Refused (refusal 32)) s) (or_undone s (all_played t s bytes))
+replay_of t s bytes = unless (system_fits t s) (played (Err (ReplayError.Refused (refusal 32))) s) (or_undone s (all_played t s bytes))

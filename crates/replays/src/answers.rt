@@ -10,10 +10,9 @@ pub struct Difference {
     pub given: u32,
 }
 
-// How many records were stepped; or the first bad block; or the first difference.
+// What ends a replay early: the first bad block, the first difference, or a refusal.
 #[derive(Clone, Copy)]
-pub enum Replayed {
-    Finished(u64),
+pub enum ReplayError {
     BadBlock(u64),
     Differs(Difference),
     Refused(Refusal),

@@ -17,8 +17,8 @@ use Rattle.grammar.specs.declared.values.«Type».{«Type» as Kind}
 use Rattle.grammar.specs.declared.values.Slot.{Slot}
 use Rattle.grammar.specs.declared.typing.Typed.TheVariants as Typed
 use Rattle.grammar.specs.declared.evaluation.Evaluation.{Evaluation}
-use Rattle.grammar.specs.declared.evaluation.Evaluated.{Evaluated}
-use Rattle.grammar.specs.declared.evaluation.Evaluated.TheVariants.{Known, NoValue}
+use Rattle.std.specs.Prelude.{Option, Some, None}
+use Rattle.grammar.specs.declared.values.Val.{Val}
 use Rattle.grammar.proofs.AgreeLaws.{evaluation_agree}
 use Rattle.graph_tables.specs.Sizes.{plain_kind, send_kind, receive_kind}
 use Rattle.graph_tables.specs.Words.{variable_count, action_count, transition_count, action_kind, kinds_of, effect_count, effect_var, effect_items}
@@ -63,15 +63,15 @@ record Alike (n : ℕ) (r s : Effected) : Type 0 where
   vars : Agree n r.vars s.vars
 
 module _ (n : ℕ) (r s : Effected) (h : Alike n r s) where
-  assigned_alike : (v : ℕ) (e : Evaluated) (rest : ℕ) → Alike n (assigned r v e rest) (assigned s v e rest)
-  assigned_alike v (Known x) rest =
+  assigned_alike : (v : ℕ) (e : Option Val) (rest : ℕ) → Alike n (assigned r v e rest) (assigned s v e rest)
+  assigned_alike v (Some x) rest =
       record {
         fits = h.fits;
         word = refl;
         size = length-set r.vars v (record { value = x }) ∙ h.size ∙ sym (length-set s.vars v (record { value = x }));
         vars = set_agree n r.vars s.vars h.size h.vars v (record { value = x });
       }
-  assigned_alike v NoValue rest = record { fits = refl; word = refl; size = h.size; vars = h.vars }
+  assigned_alike v None rest = record { fits = refl; word = refl; size = h.size; vars = h.vars }
 
   next_alike : (v : ℕ) (items : List ℕ) → evaluation_of r.vars r.word items ≡ evaluation_of s.vars s.word items
       → Alike n (effect_next r v items) (effect_next s v items)

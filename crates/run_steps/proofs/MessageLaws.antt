@@ -16,7 +16,8 @@ use Rattle.grammar.specs.Values.{kind_of, kind_word}
 use Rattle.grammar.specs.Evaluation.{blank, evaluation_of}
 use Rattle.grammar.specs.declared.values.Slot.{Slot}
 use Rattle.grammar.specs.declared.evaluation.Evaluation.{Evaluation}
-use Rattle.grammar.specs.declared.evaluation.Evaluated.{Evaluated}
+use Rattle.std.specs.Prelude.{Option}
+use Rattle.grammar.specs.declared.values.Val.{Val}
 use Rattle.graph_tables.specs.Words.{kind_at, effect_count, effect_var, effect_items}
 use Rattle.graph_tables.specs.declared.handed.Message.{Message}
 use Rattle.run_steps.specs.Messages.{voiced, spoken_next, spoken_below, value_fits, message_fits, taken_below, taken_of}
@@ -56,7 +57,7 @@ module _ (t : List ℕ) (a : ℕ) (vars : List Slot) (s : Speech) where
       by false q = never (sym q ∙ sym (ap (λ (r : Speech). r.fits) (spoken_stop n i l q)) ∙ h)
 
   -- while each has a value, one more is evaluated: y is what its evaluation gave, z the value or none
-  pub spoken_turn : (n : ℕ) {z : Evaluated} (y : Evaluation) → (spoken_below t a vars s n).fits ≡ true
+  pub spoken_turn : (n : ℕ) {z : Option Val} (y : Evaluation) → (spoken_below t a vars s n).fits ≡ true
       → y ≡ evaluation_of vars (spoken_below t a vars s n).word (effect_items t a n) → y.value ≡ z
       → spoken_below t a vars s (n + 1) ≡ voiced (spoken_below t a vars s n) n z y.rest
   unfolding spoken_below
@@ -64,7 +65,7 @@ module _ (t : List ℕ) (a : ℕ) (vars : List Slot) (s : Speech) where
       ap (spoken_below t a vars s) (add-one n)
       ∙ next_runs vars (spoken_below t a vars s n) n (effect_items t a n) f
       ∙ ap (λ (w : Evaluation). voiced (spoken_below t a vars s n) n w.value w.rest) (sym e)
-      ∙ ap (λ (w : Evaluated). voiced (spoken_below t a vars s n) n w y.rest) q
+      ∙ ap (λ (w : Option Val). voiced (spoken_below t a vars s n) n w y.rest) q
 
 -- ---- a receive
 module _ (t : List ℕ) (a : ℕ) (m : Message) (vars : List Slot) where

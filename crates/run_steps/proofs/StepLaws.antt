@@ -16,8 +16,8 @@ use Rattle.laws.proofs.Tests.{never}
 use Rattle.grammar.specs.Evaluation.{blank, evaluation_of}
 use Rattle.grammar.specs.declared.values.Slot.{Slot}
 use Rattle.grammar.specs.declared.evaluation.Evaluation.{Evaluation}
-use Rattle.grammar.specs.declared.evaluation.Evaluated.{Evaluated}
-use Rattle.grammar.specs.declared.evaluation.Evaluated.TheVariants.{Known, NoValue}
+use Rattle.std.specs.Prelude.{Option, Some, None}
+use Rattle.grammar.specs.declared.values.Val.{Val}
 use Rattle.graph_tables.specs.Sizes.{last_time}
 use Rattle.graph_tables.specs.Words.{location_count, reset_at, effect_var, effect_items}
 use Rattle.run_steps.specs.Steps.{post_known, clock_fits, reset_below, shifted_below, placed_below, Effected, assigned, effect_next}
@@ -125,21 +125,21 @@ module _ (places posts : List ℕ) where
 
 -- ---- effects
 -- one effect keeps how many variables there are
-assigned_length : (s : Effected) (v : ℕ) (e : Evaluated) (rest : ℕ) → length (assigned s v e rest).vars ≡ length s.vars
-assigned_length s v (Known x) rest = length-set s.vars v (record { value = x })
-assigned_length s v NoValue rest = refl
+assigned_length : (s : Effected) (v : ℕ) (e : Option Val) (rest : ℕ) → length (assigned s v e rest).vars ≡ length s.vars
+assigned_length s v (Some x) rest = length-set s.vars v (record { value = x })
+assigned_length s v None rest = refl
 
 -- one effect keeps every other variable
-assigned_other : (s : Effected) (v : ℕ) (e : Evaluated) (rest w : ℕ) → (v ≡ w → ⊥)
+assigned_other : (s : Effected) (v : ℕ) (e : Option Val) (rest w : ℕ) → (v ≡ w → ⊥)
     → get_or (assigned s v e rest).vars w blank ≡ get_or s.vars w blank
-assigned_other s v (Known x) rest w h = get_or-set_other s.vars v w (record { value = x }) blank (λ e. h (sym e))
-assigned_other s v NoValue rest w h = refl
+assigned_other s v (Some x) rest w h = get_or-set_other s.vars v w (record { value = x }) blank (λ e. h (sym e))
+assigned_other s v None rest w h = refl
 
 -- an effect without a value keeps the variables
-undone : (s : Effected) (v : ℕ) (e : Evaluated) (rest : ℕ) → s.fits ≡ true → (assigned s v e rest).fits ≡ false
+undone : (s : Effected) (v : ℕ) (e : Option Val) (rest : ℕ) → s.fits ≡ true → (assigned s v e rest).fits ≡ false
     → (assigned s v e rest).vars ≡ s.vars
-undone s v (Known x) rest f h = never (sym h ∙ f)
-undone s v NoValue rest f h = refl
+undone s v (Some x) rest f h = never (sym h ∙ f)
+undone s v None rest f h = refl
 
 -- one evaluation, of the same items over the same variables and word
 pub evaluated_anew : {items others : List ℕ} {vars ours : List Slot} {word left : ℕ} {y : Evaluation}
@@ -228,7 +228,7 @@ module _ (t : List ℕ) (a : ℕ) (s : Effected) where
       by false q = never (sym q ∙ sym (ap (λ (r : Effected). r.fits) (effects_stop n i l q)) ∙ h)
 
   -- while each has a value, one more is run: y is what its evaluation gave, z the value or none
-  pub effects_turn : (n : ℕ) {z : Evaluated} (y : Evaluation) → (effects_below t a s n).fits ≡ true
+  pub effects_turn : (n : ℕ) {z : Option Val} (y : Evaluation) → (effects_below t a s n).fits ≡ true
       → y ≡ turn n → y.value ≡ z
       → effects_below t a s (n + 1) ≡ assigned (effects_below t a s n) (effect_var t a n) z y.rest
   unfolding effects_below
@@ -236,7 +236,7 @@ module _ (t : List ℕ) (a : ℕ) (s : Effected) where
       ap (effects_below t a s) (add-one n)
       ∙ next_runs (effects_below t a s n) (effect_var t a n) (effect_items t a n) f
       ∙ ap (λ (w : Evaluation). assigned (effects_below t a s n) (effect_var t a n) w.value w.rest) (sym e)
-      ∙ ap (λ (w : Evaluated). assigned (effects_below t a s n) (effect_var t a n) w y.rest) q
+      ∙ ap (λ (w : Option Val). assigned (effects_below t a s n) (effect_var t a n) w y.rest) q
 
   -- a single effect without a value has written nothing
   pub effects_single : (n : ℕ) → n ≤ 1 → s.fits ≡ true → (effects_below t a s n).fits ≡ false → (effects_below t a s n).vars ≡ s.vars

@@ -4,17 +4,17 @@ use Rattle.laws.specs.Below.{◌and◌, all_below}
 use Rattle.grammar.specs.Values.{kind_of, kind_word}
 use Rattle.grammar.specs.Evaluation.{blank, evaluation_of}
 use Rattle.grammar.specs.declared.values.Slot.{Slot}
-use Rattle.grammar.specs.declared.evaluation.Evaluated.{Evaluated}
-use Rattle.grammar.specs.declared.evaluation.Evaluated.TheVariants.{Known, NoValue}
+use Rattle.std.specs.Prelude.{Option, Some, None}
+use Rattle.grammar.specs.declared.values.Val.{Val}
 use Rattle.graph_tables.specs.Sizes.{message_room}
 use Rattle.graph_tables.specs.Words.{kind_at, effect_count, effect_var, effect_items}
 use Rattle.graph_tables.specs.declared.handed.Message.{Message}
 use Rattle.run_steps.specs.declared.inner.messages.Speech.{Speech}
 
 -- value e of a send; where there is none, all stays but that it does not fit
-abbrev pub voiced : Speech → ℕ → Evaluated → ℕ → Speech
-voiced s e (Known x) rest = record { values = set s.values e (record { value = x }); word = rest; fits = s.fits }
-voiced s e NoValue rest = record { values = s.values; word = rest; fits = false }
+abbrev pub voiced : Speech → ℕ → Option Val → ℕ → Speech
+voiced s e (Some x) rest = record { values = set s.values e (record { value = x }); word = rest; fits = s.fits }
+voiced s e None rest = record { values = s.values; word = rest; fits = false }
 
 -- one more expression, on the variables as they are, drawing from what is left of the word: it is evaluated unless one before had no value
 unfoldable pub spoken_next : List Slot → Speech → ℕ → List ℕ → Speech

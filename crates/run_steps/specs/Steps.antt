@@ -7,8 +7,7 @@ use Rattle.grammar.specs.Evaluation.{evaluation_of}
 use Rattle.grammar.specs.declared.values.Val.{Val}
 use Rattle.grammar.specs.declared.values.Val.TheVariants.{Boolean, Integer}
 use Rattle.grammar.specs.declared.values.Slot.{Slot}
-use Rattle.grammar.specs.declared.evaluation.Evaluated.{Evaluated}
-use Rattle.grammar.specs.declared.evaluation.Evaluated.TheVariants.{Known, NoValue}
+use Rattle.std.specs.Prelude.{Option, Some, None}
 use Rattle.graph_tables.specs.Sizes.{last_time}
 use Rattle.graph_tables.specs.Words.{location_count, action_count, transition_count, invariant_count, action_kind, reset_count, reset_at}
 use Rattle.graph_tables.specs.Words.{effect_count, effect_var, effect_items, key_of, guard_length, guard_items, limit_count, pre_of, action_of}
@@ -30,9 +29,9 @@ abbrev pub is_true : Val → Bool
 is_true (Boolean b) = b
 is_true (Integer n) = false
 
-abbrev pub satisfied : Evaluated → Bool
-satisfied (Known v) = is_true v
-satisfied NoValue = false
+abbrev pub satisfied : Option Val → Bool
+satisfied (Some v) = is_true v
+satisfied None = false
 
 unfoldable pub guard_holds : List ℕ → List Slot → ℕ → Bool
 guard_holds t vars k = cond (eqb (guard_length t k) 0) true (satisfied (evaluation_of vars 0 (guard_items t k)).value)
@@ -101,9 +100,9 @@ pub record Effected : Type 0 where
   pub fits : Bool
 
 -- variable v gets a value; where there is none, all stays but that it does not fit
-abbrev pub assigned : Effected → ℕ → Evaluated → ℕ → Effected
-assigned s v (Known x) rest = record { vars = set s.vars v (record { value = x }); word = rest; fits = s.fits }
-assigned s v NoValue rest = record { vars = s.vars; word = rest; fits = false }
+abbrev pub assigned : Effected → ℕ → Option Val → ℕ → Effected
+assigned s v (Some x) rest = record { vars = set s.vars v (record { value = x }); word = rest; fits = s.fits }
+assigned s v None rest = record { vars = s.vars; word = rest; fits = false }
 
 -- one more effect, which sees the ones before: it is run unless one of them had no value
 unfoldable pub effect_next : Effected → ℕ → List ℕ → Effected

@@ -1,15 +1,17 @@
 // Each line of standard input is answered by the public call that it names.
 use crate::system;
-use channel_system::answers::{Now, Waited};
+use channel_system::answers::WaitError;
 use channel_system::{readers, run};
 use graph_tables::ids;
 use graph_tables::refusals::Refusal;
-use graph_text::answers::done;
-use graph_text::{lists, writing};
+use graph_text::faults::Fault;
+use graph_text::lines::Line;
+use graph_text::lists;
+use graph_text::replies::Reply;
 use std::io;
 use system_tables::ids::Action;
-use text::numbers::Small;
-use text::{lines, output, tokens};
+use text::lines::Reader;
+use text::rows;
 
 // The longest line, without its end.
 const LONGEST: usize = 64;
@@ -20,94 +22,77 @@ pub const ROOM: usize = 65;
 // Room for the longest answer.
 const ANSWER: usize = 32;
 
-fn waited(out: &mut [u8], w: Waited) -> usize {
-    match w {
-        Waited::Accepted => text::answers::ok(out),
-        Waited::Invariant(_) => text::answers::refused(out, Refusal::Invariant.number()),
-        Waited::Refused(r) => text::answers::refused(out, r.number()),
-    }
+// D
+fn wait(line: Line, t: &[u64], s: &mut [u64]) -> Result<(), Fault> {
+    run::wait(t, s, line.last_number()?).map_err(|error| match error {
+        WaitError::Invariant(_) => Fault::Refused(Refusal::Invariant),
+        WaitError::Refused(r) => Fault::Refused(r),
+    })
 }
 
-// w D
-fn wait(line: &[u8], at: usize, t: &[u64], s: &mut [u64], out: &mut [u8]) -> usize {
-    let Small::Is(delta) = lists::read_last_number(line, at) else {
-        return text::answers::bad(out);
-    };
-    waited(out, run::wait(t, s, delta))
-}
-
-// t A P: the graph's number is 0, so the word of a post is the location's number.
-fn step(line: &[u8], at: usize, t: &[u64], s: &mut [u64], out: &mut [u8]) -> usize {
-    let Small::Is(a) = lists::read_action(tokens::token(line, at)) else {
-        return text::answers::bad(out);
-    };
-    let Small::Is(post) = lists::read_last_number(line, tokens::next(line, at)) else {
-        return text::answers::bad(out);
-    };
+// A P: the graph's number is 0, so the word of a post is the location's number.
+fn step(mut line: Line, t: &[u64], s: &mut [u64]) -> Result<(), Fault> {
+    let a = line.read(lists::read_action)?;
+    let post = line.last_number()?;
     let action = Action(system::GRAPH, ids::Action(a));
-    let posts = [post as u64; 1];
-    let stepped = run::transition(t, s, system::GRAPH, action, &posts, 0);
-    let answer = stepped.answer;
-    done(out, answer)
+    run::transition(t, s, system::GRAPH, action, &[u64::from(post)], 0)?;
+    Ok(())
 }
 
-fn answer(line: &[u8], t: &[u64], s: &mut [u64], out: &mut [u8]) -> usize {
-    let verb = tokens::token(line, 0);
-    let at = tokens::next(line, 0);
-    if tokens::is(verb, b"w") {
-        return wait(line, at, t, s, out);
+fn answer(mut line: Line, t: &[u64], s: &mut [u64], out: &mut Reply) -> Result<(), Fault> {
+    match line.next() {
+        b"w" => wait(line, t, s)?,
+        b"t" => step(line, t, s)?,
+        _ => return Err(Fault::Bad),
     }
-    if tokens::is(verb, b"t") {
-        return step(line, at, t, s, out);
-    }
-    text::answers::bad(out)
+    out.ok();
+    Ok(())
 }
 
 // Writes the answer to a line.
 fn tell(rt: &impl Print, line: &[u8], length: usize, t: &[u64], s: &mut [u64]) -> io::Result<()> {
-    let mut out = [0u8; ANSWER];
-    if LONGEST < length {
-        let count = text::answers::bad(&mut out);
-        return rt.write_all(tokens::part(&out, count));
-    }
-    let count = answer(tokens::part(line, length), t, s, &mut out);
-    rt.write_all(tokens::part(&out, count))
+    let mut bytes = [0u8; ANSWER];
+    let mut out = Reply::new(&mut bytes);
+    let told = if LONGEST < length {
+        Err(Fault::Bad)
+    } else {
+        answer(Line::new(rows::part(line, length)), t, s, &mut out)
+    };
+    out.tell(told);
+    rt.write_all(out.written())
 }
 
 // The turns are counted, as in reading.
 pub fn answer_all(
     rt: &(impl Input + Print),
     line: &mut [u8],
-    bytes: &mut [u8],
     t: &[u64],
     s: &mut [u64],
 ) -> io::Result<()> {
     let mut from = rt.reader();
-    let mut reader = lines::start();
+    let mut reader = Reader::new();
     for _ in 0..u64::MAX {
-        reader = lines::read_line(&mut from, line, bytes, reader)?;
-        if !reader.whole {
+        let Some(length) = reader.read_line(&mut from, line)? else {
             return Ok(());
-        }
-        tell(rt, line, reader.length, t, s)?;
+        };
+        tell(rt, line, length, t, s)?;
     }
     Ok(())
 }
 
-fn put_time(out: &mut [u8], now: Now) -> usize {
-    match now {
-        Now::Is(n) => {
-            let a = output::put_all(out, 0, b"time");
-            let b = writing::put_next_number(out, a, n);
-            text::answers::end(out, b)
-        }
-        Now::Refused(r) => text::answers::refused(out, r.number()),
-    }
+fn put_time(out: &mut Reply, t: &[u64], s: &[u64]) -> Result<(), Fault> {
+    let n = readers::time(t, s)?;
+    out.put_all(b"time");
+    out.put_next_number(n);
+    out.end();
+    Ok(())
 }
 
 // Writes the time of the system.
 pub fn tell_time(rt: &impl Print, t: &[u64], s: &[u64]) -> io::Result<()> {
-    let mut out = [0u8; ANSWER];
-    let count = put_time(&mut out, readers::time(t, s));
-    rt.write_all(tokens::part(&out, count))
+    let mut bytes = [0u8; ANSWER];
+    let mut out = Reply::new(&mut bytes);
+    let told = put_time(&mut out, t, s);
+    out.tell(told);
+    rt.write_all(out.written())
 }

@@ -11,8 +11,8 @@ fn main(rt: HostRuntime) -> io::Result<()> {
     let mut t = [0u64; system_tables::sizes::WORDS];
     let mut s = [0u64; system_state::layout::WORDS];
     let mut line = [0u8; lines::ROOM];
-    let mut bytes = [0u8; text::lines::PIECE];
-    system::start(&mut t, &mut s);
-    lines::answer_all(&rt, &mut line, &mut bytes, &t, &mut s)?;
+    // Where it did not start, each call on it is refused, and says so.
+    let _ = system::start(&mut t, &mut s);
+    lines::answer_all(&rt, &mut line, &t, &mut s)?;
     lines::tell_time(&rt, &t, &s)
 }

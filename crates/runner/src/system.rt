@@ -3,7 +3,7 @@
 use channel_system::run;
 use grammar::items::{Binary, Item};
 use grammar::values::Val;
-use graph_tables::answers::Done;
+use graph_tables::answers::Answer;
 use graph_tables::handed::{Limit, Limits};
 use graph_tables::ids::{Action, Clock, Location, Var};
 use graph_tables::sizes;
@@ -44,37 +44,36 @@ fn with_v0(number: i32, operation: Binary) -> [u64; 3] {
     [variable.word(), constant.word(), last.word()]
 }
 
-fn add_parts(t: &mut [u64]) {
-    on_graph::new_clock(t, GRAPH);
-    on_graph::new_var(t, GRAPH, Val::Integer(0));
-    on_graph::new_initial_location(t, GRAPH);
-    on_graph::new_timed_location(t, GRAPH, limit(Bound::Unbounded, Bound::Included(5)));
-    on_graph::new_action(t, GRAPH);
+fn add_parts(t: &mut [u64]) -> Answer<()> {
+    on_graph::new_clock(t, GRAPH)?;
+    on_graph::new_var(t, GRAPH, Val::Integer(0))?;
+    on_graph::new_initial_location(t, GRAPH)?;
+    on_graph::new_timed_location(t, GRAPH, limit(Bound::Unbounded, Bound::Included(5)))?;
+    on_graph::new_action(t, GRAPH)?;
+    Ok(())
 }
 
-fn add_effects(t: &mut [u64]) {
+fn add_effects(t: &mut [u64]) -> Answer<()> {
     let more = with_v0(1, Binary::Add);
-    on_graph::add_effect(t, GRAPH, A0, V0, &more);
-    on_graph::add_reset(t, GRAPH, A0, C0);
+    on_graph::add_effect(t, GRAPH, A0, V0, &more)?;
+    on_graph::add_reset(t, GRAPH, A0, C0)
 }
 
-fn add_transitions(t: &mut [u64]) {
+fn add_transitions(t: &mut [u64]) -> Answer<()> {
     let few = with_v0(2, Binary::Less);
     let none = [0u64; 1];
     let later = limit(Bound::Included(3), Bound::Unbounded);
-    on_graph::add_transition(t, GRAPH, L0, A0, L1, true, &few);
-    on_graph::add_autonomous_timed_transition(t, GRAPH, L1, L0, false, &none[0..0], later);
+    on_graph::add_transition(t, GRAPH, L0, A0, L1, true, &few)?;
+    on_graph::add_autonomous_timed_transition(t, GRAPH, L1, L0, false, &none[0..0], later)
 }
 
 // Builds it, and makes its state.
-pub fn start(t: &mut [u64], s: &mut [u64]) -> Done {
-    system_builder::new(t);
-    system_builder::new_program_graph(t);
-    add_parts(t);
-    add_effects(t);
-    add_transitions(t);
-    if let Done::Refused(r) = system_builder::build(t) {
-        return Done::Refused(r);
-    }
+pub fn start(t: &mut [u64], s: &mut [u64]) -> Answer<()> {
+    system_builder::new(t)?;
+    system_builder::new_program_graph(t)?;
+    add_parts(t)?;
+    add_effects(t)?;
+    add_transitions(t)?;
+    system_builder::build(t)?;
     run::new_instance(t, s)
 }

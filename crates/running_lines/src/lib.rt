@@ -2,7 +2,6 @@
 #![tactic(auto)]
 
 pub mod answers;
-pub mod messages;
 pub mod running;
 pub mod showing;
 mod stepping;

@@ -1,41 +1,42 @@
 // A run as text.
 use graph_tables::{inner, sizes};
-use graph_text::writing;
+use graph_text::faults::Fault;
+use graph_text::replies::Reply;
 use program_graph::record::ProgramGraphRun;
-use text::output;
 
-fn put_places(out: &mut [u8], at: usize, run: ProgramGraphRun, count: usize) -> usize {
-    let places = run.places;
-    let here = output::put_all(out, at, b"places");
-    writing::put_numbers(out, here, &places, count)
-}
-
-fn put_vars(out: &mut [u8], at: usize, run: ProgramGraphRun, count: usize) -> usize {
-    let vars = run.vars;
-    let here = output::put_all(out, at, b" vars");
-    writing::put_values(out, here, vars, count)
-}
-
-fn put_times(out: &mut [u8], at: usize, run: ProgramGraphRun, count: usize) -> usize {
-    let times = run.times;
-    let here = output::put_all(out, at, b" clocks");
-    writing::put_numbers(out, here, &times, count)
+// The first places, values and times.
+fn put_first(
+    out: &mut Reply,
+    run: &ProgramGraphRun,
+    processes: usize,
+    variables: usize,
+    clocks: usize,
+) {
+    out.put_all(b"places");
+    out.put_numbers(&run.places, processes);
+    out.put_all(b" vars");
+    out.put_values(&run.vars, variables);
+    out.put_all(b" clocks");
+    out.put_numbers(&run.times, clocks);
 }
 
 // What a run has by its own counts.
-pub fn put_run(out: &mut [u8], at: usize, run: ProgramGraphRun) -> usize {
-    let a = put_places(out, at, run, run.processes);
-    let b = put_vars(out, a, run, run.variables);
-    put_times(out, b, run, run.clocks)
+pub fn put_run(out: &mut Reply, run: &ProgramGraphRun) {
+    put_first(out, run, run.processes, run.variables, run.clocks);
 }
 
 // What it has by the graph's: no call is made. A count that is above the run's size shows all of the run.
-pub fn show(t: &[u64], run: ProgramGraphRun, out: &mut [u8]) -> usize {
+pub fn show(t: &[u64], run: &ProgramGraphRun, out: &mut Reply) -> Result<(), Fault> {
     if t.len() != sizes::WORDS {
-        return text::answers::bad(out);
+        return Err(Fault::Bad);
     }
-    let a = put_places(out, 0, run, inner::process_count(t));
-    let b = put_vars(out, a, run, inner::variable_count(t));
-    let c = put_times(out, b, run, inner::clock_count(t));
-    text::answers::end(out, c)
+    put_first(
+        out,
+        run,
+        inner::process_count(t),
+        inner::variable_count(t),
+        inner::clock_count(t),
+    );
+    out.end();
+    Ok(())
 }

@@ -1,4 +1,6 @@
 -- Actions that a call puts in a graph of a system: what the graph's own calls say of them, and their communications.
+use Rattle.graph_tables.specs.Answers.{Answer, admitted}
+use Rattle.std.specs.Prelude.{Ok, Err, ⊤}
 use Prim.Native.Nat.{ℕ, ◌<◌}
 use mathlib.Core.Path.{◌≡◌, refl, ap, ◌∙◌}
 use mathlib.Core.Bool.{true}
@@ -8,8 +10,6 @@ use Rattle.graph_tables.specs.Sizes.{action_room}
 use Rattle.graph_tables.specs.Formed.{well_formed}
 use Rattle.graph_tables.proofs.SoundLaws.{sound}
 use Rattle.graph_tables.specs.declared.handed.Vars.{Vars}
-use Rattle.graph_tables.specs.declared.answers.Placed.{Placed}
-use Rattle.graph_tables.specs.declared.answers.Done.{Done}
 use Rattle.graph_checks.specs.Checks.{action_check, send_check, receive_check}
 use Rattle.graph_checks.proofs.ReadyParts.{action_ready}
 use Rattle.graph_checks.proofs.ReadyActions.{send_ready, receive_ready}
@@ -18,25 +18,24 @@ use Rattle.graph_builder.proofs.FormedCalls.{action_stays, send_stays, receive_s
 use Rattle.system_tables.specs.Sizes.{graph_room}
 use Rattle.system_tables.specs.Words.{SystemWords, graph_count, graph_part}
 use Rattle.system_tables.specs.Formed.{graph_formed}
-use Rattle.system_tables.specs.declared.ids.Communication.{Communication}
 use Rattle.system_tables.proofs.FrameLaws.{with_graph_elsewhere}
 use Rattle.system_tables.proofs.KeptLaws.{Formed, apart}
-use Rattle.system_builder.specs.Graphs.{member_check, on_part, placed_on, told, telling}
+use Rattle.system_builder.specs.Graphs.{member_check, on_part, placed_on}
 use Rattle.system_builder.proofs.SystemLaws.{member_ready}
 
 -- the number of a part that was placed
-abbrev number_in : Placed → ℕ
-number_in (Placed.At n) = n
-number_in (Placed.Refused r) = 0
+abbrev number_in : Answer ℕ → ℕ
+number_in (Ok n) = n
+number_in (Err r) = 0
 
-pub placed_at : (c : Done) (t : List ℕ) (n : ℕ) (u : List ℕ) (a : ℕ) → (placed_if c t n u).answer ≡ Placed.At a → (c ≡ Done.Accepted) × (n ≡ a)
-placed_at Done.Accepted t n u a e = (refl, ap number_in e)
-placed_at (Done.Refused r) t n u a e = let z : ◌≡◌ {A = ℕ} 0 1 = cc in absurd (omega arith)
+pub placed_at : (c : Answer ⊤) (t : List ℕ) (n : ℕ) (u : List ℕ) (a : ℕ) → (placed_if c t n u).answer ≡ Ok a → (c ≡ admitted) × (n ≡ a)
+placed_at (Ok _) t n u a e = (refl, ap number_in e)
+placed_at (Err r) t n u a e = let z : ◌≡◌ {A = ℕ} 0 1 = cc in absurd (omega arith)
 
 -- ---- a graph's call that puts an action in it leaves as many words, and the action is one of those that there is room for
-abbrev pub PutsAction : (List ℕ → Outcome Placed) → Type 0
+abbrev pub PutsAction : (List ℕ → Outcome (Answer ℕ)) → Type 0
 PutsAction call = (G : List ℕ) → well_formed G true ≡ true
-    → (well_formed (call G).table true ≡ true) × ((a : ℕ) → (call G).answer ≡ Placed.At a → a < action_room)
+    → (well_formed (call G).table true ≡ true) × ((a : ℕ) → (call G).answer ≡ Ok a → a < action_room)
 
 pub action_puts : PutsAction new_action_of
 unfolding new_action_of
@@ -58,10 +57,10 @@ pub part_formed : (t : List ℕ) (g : ℕ) → Formed t true → g < graph_count
 unfolding graph_formed
 part_formed t g f l = f.graph g l
 
-abbrev pub HasWord : List ℕ → ℕ → Placed → Type 0
-HasWord t g placed = (a : ℕ) → placed ≡ Placed.At a → SystemWords t × (g < graph_room) × (a < action_room)
+abbrev pub HasWord : List ℕ → ℕ → Answer ℕ → Type 0
+HasWord t g placed = (a : ℕ) → placed ≡ Ok a → SystemWords t × (g < graph_room) × (a < action_room)
 
-pub has_word : (call : List ℕ → Outcome Placed) → PutsAction call → (t : List ℕ) (g : ℕ) → member_check t g ≡ Done.Accepted
+pub has_word : (call : List ℕ → Outcome (Answer ℕ)) → PutsAction call → (t : List ℕ) (g : ℕ) → member_check t g ≡ admitted
     → HasWord (on_part call t g).table g (on_part call t g).answer
 has_word call puts t g h a e =
     let r = member_ready t g h in
@@ -71,15 +70,10 @@ has_word call puts t g h a e =
     ((with_graph_elsewhere t (call (graph_part t g)).table f.words g small (sound _ true p.0).words).sizes ∙ f.words, small, p.1 a e)
 
 -- of a call that asks for the graph first
-pub checked_word : (call : List ℕ → Outcome Placed) → PutsAction call → (t : List ℕ) (g : ℕ)
+pub checked_word : (call : List ℕ → Outcome (Answer ℕ)) → PutsAction call → (t : List ℕ) (g : ℕ)
     → HasWord (placed_on call t g).table g (placed_on call t g).answer
 checked_word call puts t g = by (member_check t g) refl
   where
-    by : (c : Done) → member_check t g ≡ c → HasWord (placed_on call t g).table g (placed_on call t g).answer
-    by Done.Accepted h = rw h (has_word call puts t g h)
-    by (Done.Refused r) h = rw h (λ a e. let z : ◌≡◌ {A = ℕ} 0 1 = cc in absurd (omega arith))
-
--- ---- the answer and the table of a call that tells the communication
-pub telling_of : (g : ℕ) (c : Communication) (o : Outcome Placed) (placed : Placed) (u v : List ℕ) → placed ≡ o.answer → u ≡ o.table
-    → v ≡ told g c placed u → ◌≡◌ {A = Outcome Placed} (record { answer = placed; table = v }) (telling g c o)
-telling_of g c o placed u v e h k = rw (k, e, h)
+    by : (c : Answer ⊤) → member_check t g ≡ c → HasWord (placed_on call t g).table g (placed_on call t g).answer
+    by (Ok _) h = rw h (has_word call puts t g h)
+    by (Err r) h = rw h (λ a e. let z : ◌≡◌ {A = ℕ} 0 1 = cc in absurd (omega arith))

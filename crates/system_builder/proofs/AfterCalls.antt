@@ -1,5 +1,6 @@
 -- What a call on one graph of a system leaves in that graph: its words are what the graph's own call leaves, each action that there was
 -- keeps its communication, and a new one has the communication that the call says.
+use Rattle.std.specs.Prelude.{Ok, Err, ⊤}
 use Prim.Native.Nat.{ℕ, ◌<◌}
 use mathlib.Core.Path.{◌≡◌, refl, sym, ap, ◌∙◌}
 use mathlib.Core.Bool.{true}
@@ -8,11 +9,9 @@ use native.Mathlib.Nat.{lt_of_lt_of_le}
 use native.Mathlib.Omega.{arith}
 use Rattle.graph_tables.specs.Words.{action_count}
 use Rattle.graph_tables.specs.Formed.{well_formed}
-use Rattle.graph_tables.specs.Answers.{done_number, placed_number}
+use Rattle.graph_tables.specs.Answers.{Answer, admitted, answer_number}
 use Rattle.graph_tables.specs.Refusals.{number_of}
 use Rattle.graph_tables.specs.declared.refusals.Refusal.{Refusal}
-use Rattle.graph_tables.specs.declared.answers.Placed.{Placed}
-use Rattle.graph_tables.specs.declared.answers.Done.{Done}
 use Rattle.graph_tables.proofs.NumberLaws.{above_ok}
 use Rattle.graph_tables.proofs.SoundLaws.{sound}
 use Rattle.graph_builder.specs.Building.{Outcome, new_var_of, new_clock_of, new_action_of, new_process_of, add_reset_of, add_effect_of}
@@ -80,77 +79,77 @@ module _ (t : List ℕ) (f : Formed t true) (g : ℕ) (known : g < graph_count t
       e
 
   -- and the communication of the action that it adds
-  module _ (o : Outcome Placed) (m : Communication) (adds : AddsOne (graph_part t g) c o) where
+  module _ (o : Outcome (Answer ℕ)) (m : Communication) (adds : AddsOne (graph_part t g) c o) where
     formed : well_formed o.table true ≡ true
     formed = rw adds.table at after_formed
 
     each : (a : ℕ) → a < action_count (graph_part t g) → ActionSame (graph_part t g) o.table a
     each a l = rw adds.table at (after_same (graph_part t g) (own_formed t f g known) c fit a l)
 
-    told_after : After t (told g m o.answer (with_graph t g o.table)) g c (placed_number o.answer)
+    told_after : After t (told g m o.answer (with_graph t g o.table)) g c (answer_number o.answer)
     told_after = by o.answer refl
       where
-        by : (p : Placed) → o.answer ≡ p → After t (told g m o.answer (with_graph t g o.table)) g c (placed_number o.answer)
-        by (Placed.At a) e =
-            let ok : Own.answer_of (graph_part t g) c ≡ 0 = adds.number ∙ ap placed_number e in
+        by : (p : Answer ℕ) → o.answer ≡ p → After t (told g m o.answer (with_graph t g o.table)) g c (answer_number o.answer)
+        by (Ok a) e =
+            let ok : Own.answer_of (graph_part t g) c ≡ 0 = adds.number ∙ ap answer_number e in
             let here : a ≡ action_count (graph_part t g) = adds.place a e in
             rw (e, here)
             (acted known
             (part t f g known o.table formed (adds.more ok) each (communication_word m) ∙ sym adds.table)
             (old t f g known o.table formed (adds.more ok) each (communication_word m))
             (sym ok))
-        by (Placed.Refused r) e =
-            rw (e, sym adds.table) (put_after (number_of r) (sym (ap placed_number e) ∙ sym adds.number))
+        by (Err r) e =
+            rw (e, sym adds.table) (put_after (number_of r) (sym (ap answer_number e) ∙ sym adds.number))
 
-    told_fresh : placed_number o.answer ≡ 0
+    told_fresh : answer_number o.answer ≡ 0
         → communication_at (told g m o.answer (with_graph t g o.table)) g (action_count (graph_part t g)) ≡ communication_word m
     told_fresh done = by o.answer refl
       where
-        by : (p : Placed) → o.answer ≡ p
+        by : (p : Answer ℕ) → o.answer ≡ p
             → communication_at (told g m o.answer (with_graph t g o.table)) g (action_count (graph_part t g)) ≡ communication_word m
-        by (Placed.At a) e =
+        by (Ok a) e =
             let ok : Own.answer_of (graph_part t g) c ≡ 0 = adds.number ∙ done in
             let here : a ≡ action_count (graph_part t g) = adds.place a e in
             rw (e, here) (fresh t f g known o.table formed (adds.more ok) each (communication_word m))
-        by (Placed.Refused r) e = absurd (above_ok r (sym (ap placed_number e) ∙ done))
+        by (Err r) e = absurd (above_ok r (sym (ap answer_number e) ∙ done))
 
 -- ---- a call that asks a check first
 only_after : {A : Type 0} (refuse : Refusal → A) (number : A → ℕ) → ((r : Refusal) → number (refuse r) ≡ number_of r)
-    → (check : Done) (t : List ℕ) (o : Outcome A) (g : ℕ) (c : Own.Call)
-    → (check ≡ Done.Accepted → After t o.table g c (number o.answer))
+    → (check : Answer ⊤) (t : List ℕ) (o : Outcome A) (g : ℕ) (c : Own.Call)
+    → (check ≡ admitted → After t o.table g c (number o.answer))
     → After t (only_if refuse check t o).table g c (number (only_if refuse check t o).answer)
-only_after refuse number same Done.Accepted t o g c h = h refl
-only_after refuse number same (Done.Refused r) t o g c h = refused refl (omega (arith, above_ok r, same r))
+only_after refuse number same (Ok _) t o g c h = h refl
+only_after refuse number same (Err r) t o g c h = refused refl (omega (arith, above_ok r, same r))
 
 module _ (t : List ℕ) (f : Formed t true) (g : ℕ) where
-  placed_after : (call : List ℕ → Outcome Placed) (c : Own.Call) → Own.Fits c → (call (graph_part t g)).table ≡ Own.after (graph_part t g) c
-      → placed_number (call (graph_part t g)).answer ≡ Own.answer_of (graph_part t g) c
-      → After t (on_graph Placed.Refused call t g).table g c (placed_number (on_graph Placed.Refused call t g).answer)
+  placed_after : (call : List ℕ → Outcome (Answer ℕ)) (c : Own.Call) → Own.Fits c → (call (graph_part t g)).table ≡ Own.after (graph_part t g) c
+      → answer_number (call (graph_part t g)).answer ≡ Own.answer_of (graph_part t g) c
+      → After t (on_graph Err call t g).table g c (answer_number (on_graph Err call t g).answer)
   placed_after call c fit same number =
-      only_after Placed.Refused placed_number (λ r. refl) (member_check t g) t (on_part call t g) g c
+      only_after Err answer_number (λ r. refl) (member_check t g) t (on_part call t g) g c
       (λ e. rw same (put_after t f g (member_ready t g e).1 c fit _ number))
 
-  done_after : (call : List ℕ → Outcome Done) (c : Own.Call) → Own.Fits c → (call (graph_part t g)).table ≡ Own.after (graph_part t g) c
-      → done_number (call (graph_part t g)).answer ≡ Own.answer_of (graph_part t g) c
-      → After t (on_graph Done.Refused call t g).table g c (done_number (on_graph Done.Refused call t g).answer)
+  done_after : (call : List ℕ → Outcome (Answer ⊤)) (c : Own.Call) → Own.Fits c → (call (graph_part t g)).table ≡ Own.after (graph_part t g) c
+      → answer_number (call (graph_part t g)).answer ≡ Own.answer_of (graph_part t g) c
+      → After t (on_graph Err call t g).table g c (answer_number (on_graph Err call t g).answer)
   done_after call c fit same number =
-      only_after Done.Refused done_number (λ r. refl) (member_check t g) t (on_part call t g) g c
+      only_after Err answer_number (λ r. refl) (member_check t g) t (on_part call t g) g c
       (λ e. rw same (put_after t f g (member_ready t g e).1 c fit _ number))
 
-  action_after : After t (new_action_on t g).table g Own.new_action (placed_number (new_action_on t g).answer)
+  action_after : After t (new_action_on t g).table g Own.new_action (answer_number (new_action_on t g).answer)
   action_after = by (member_check t g) refl
     where
-      by : (d : Done) → member_check t g ≡ d → After t (new_action_on t g).table g Own.new_action (placed_number (new_action_on t g).answer)
-      by Done.Accepted e =
+      by : (d : Answer ⊤) → member_check t g ≡ d → After t (new_action_on t g).table g Own.new_action (answer_number (new_action_on t g).answer)
+      by (Ok _) e =
           rw e (told_after t f g (member_ready t g e).1 Own.new_action tt (new_action_of (graph_part t g)) Plain (adds_plain (graph_part t g)))
-      by (Done.Refused r) e = rw e (refused refl (omega (arith, above_ok r)))
+      by (Err r) e = rw e (refused refl (omega (arith, above_ok r)))
 
-  message_after : (check : Done) (m : Communication) (call : List ℕ → Outcome Placed) (c : Own.Call) → Own.Fits c
-      → AddsOne (graph_part t g) c (call (graph_part t g)) → (check ≡ Done.Accepted → member_check t g ≡ Done.Accepted)
-      → After t (only_if Placed.Refused check t (telling g m (on_part call t g))).table g c
-      (placed_number (only_if Placed.Refused check t (telling g m (on_part call t g))).answer)
+  message_after : (check : Answer ⊤) (m : Communication) (call : List ℕ → Outcome (Answer ℕ)) (c : Own.Call) → Own.Fits c
+      → AddsOne (graph_part t g) c (call (graph_part t g)) → (check ≡ admitted → member_check t g ≡ admitted)
+      → After t (only_if Err check t (telling g m (on_part call t g))).table g c
+      (answer_number (only_if Err check t (telling g m (on_part call t g))).answer)
   message_after check m call c fit adds member =
-      only_after Placed.Refused placed_number (λ r. refl) check t (telling g m (on_part call t g)) g c
+      only_after Err answer_number (λ r. refl) check t (telling g m (on_part call t g)) g c
       (λ e. told_after t f g (member_ready t g (member e)).1 c fit (call (graph_part t g)) m adds)
 
   pub after_on_lem : (c : OnGraph) → Fits c → After t (after_on t g c) g (own_call c) (answer_on t g c)
@@ -176,29 +175,29 @@ module _ (t : List ℕ) (f : Formed t true) (g : ℕ) where
       (adds_send (graph_part t g) no_values 0) (known_member t g q.0)
 
   -- ---- an action that is added has the communication that its call says
-  only_fresh : (check : Done) (o : Outcome Placed) (m : Communication) (a : ℕ)
-      → (check ≡ Done.Accepted → placed_number o.answer ≡ 0 → communication_at o.table g a ≡ communication_word m)
-      → placed_number (only_if Placed.Refused check t o).answer ≡ 0
-      → communication_at (only_if Placed.Refused check t o).table g a ≡ communication_word m
-  only_fresh Done.Accepted o m a h e = h refl e
-  only_fresh (Done.Refused r) o m a h e = absurd (above_ok r e)
+  only_fresh : (check : Answer ⊤) (o : Outcome (Answer ℕ)) (m : Communication) (a : ℕ)
+      → (check ≡ admitted → answer_number o.answer ≡ 0 → communication_at o.table g a ≡ communication_word m)
+      → answer_number (only_if Err check t o).answer ≡ 0
+      → communication_at (only_if Err check t o).table g a ≡ communication_word m
+  only_fresh (Ok _) o m a h e = h refl e
+  only_fresh (Err r) o m a h e = absurd (above_ok r e)
 
-  action_fresh : placed_number (new_action_on t g).answer ≡ 0
+  action_fresh : answer_number (new_action_on t g).answer ≡ 0
       → communication_at (new_action_on t g).table g (action_count (graph_part t g)) ≡ communication_word Plain
   action_fresh done = by (member_check t g) refl
     where
-      by : (d : Done) → member_check t g ≡ d
+      by : (d : Answer ⊤) → member_check t g ≡ d
           → communication_at (new_action_on t g).table g (action_count (graph_part t g)) ≡ communication_word Plain
-      by Done.Accepted e =
-          let fine : placed_number (new_action_of (graph_part t g)).answer ≡ 0 = rw e at done in
+      by (Ok _) e =
+          let fine : answer_number (new_action_of (graph_part t g)).answer ≡ 0 = rw e at done in
           rw e
           (told_fresh t f g (member_ready t g e).1 Own.new_action tt (new_action_of (graph_part t g)) Plain (adds_plain (graph_part t g)) fine)
-      by (Done.Refused r) e = absurd (above_ok r (rw e at done))
+      by (Err r) e = absurd (above_ok r (rw e at done))
 
-  message_fresh : (check : Done) (m : Communication) (call : List ℕ → Outcome Placed) (c : Own.Call) → Own.Fits c
-      → AddsOne (graph_part t g) c (call (graph_part t g)) → (check ≡ Done.Accepted → member_check t g ≡ Done.Accepted)
-      → placed_number (only_if Placed.Refused check t (telling g m (on_part call t g))).answer ≡ 0
-      → communication_at (only_if Placed.Refused check t (telling g m (on_part call t g))).table g (action_count (graph_part t g))
+  message_fresh : (check : Answer ⊤) (m : Communication) (call : List ℕ → Outcome (Answer ℕ)) (c : Own.Call) → Own.Fits c
+      → AddsOne (graph_part t g) c (call (graph_part t g)) → (check ≡ admitted → member_check t g ≡ admitted)
+      → answer_number (only_if Err check t (telling g m (on_part call t g))).answer ≡ 0
+      → communication_at (only_if Err check t (telling g m (on_part call t g))).table g (action_count (graph_part t g))
       ≡ communication_word m
   message_fresh check m call c fit adds member =
       only_fresh check (telling g m (on_part call t g)) m (action_count (graph_part t g))

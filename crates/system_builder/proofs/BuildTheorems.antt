@@ -14,9 +14,8 @@ use Rattle.laws.specs.Below.{◌and◌, all_below}
 use Rattle.laws.proofs.BelowLaws.{all_at, all_from, all_fails}
 use Rattle.graph_tables.specs.Words.{process_count}
 use Rattle.graph_tables.specs.Formed.{well_formed}
-use Rattle.graph_tables.specs.Answers.{done_number}
+use Rattle.graph_tables.specs.Answers.{admitted, answer_number}
 use Rattle.graph_tables.proofs.KeptLaws as own-parts
-use Rattle.graph_tables.specs.declared.answers.Done.{Done}
 use Rattle.graph_checks.specs.Checks.{refused_by}
 use Rattle.graph_checks.proofs.CheckLaws.{unless_on}
 use Rattle.graph_builder.specs.Building.{build_of}
@@ -54,20 +53,20 @@ module _ (t : List ℕ) (words : SystemWords t) where
   new_formed = rw (eq-eqb _ _ words) (together (no_members t) true none_formed)
 
 -- `new` accepts exactly a table of its length, and answers 32 exactly to any other.
-pub new_accepts : (t : List ℕ) → ((empty_system_of t).answer ≡ Done.Accepted) ↔ SystemWords t
+pub new_accepts : (t : List ℕ) → ((empty_system_of t).answer ≡ admitted) ↔ SystemWords t
 unfolding empty_system_of unless
 new_accepts t = (by (eqb (length t) system_words) refl, λ words. rw (eq-eqb _ _ words))
   where
-    by : (b : Bool) → eqb (length t) system_words ≡ b → (empty_system_of t).answer ≡ Done.Accepted → SystemWords t
+    by : (b : Bool) → eqb (length t) system_words ≡ b → (empty_system_of t).answer ≡ admitted → SystemWords t
     by true e h = eqb-true _ _ e
-    by false e h = let z : ◌≡◌ {A = ℕ} 32 0 = ap done_number (rw e at h) in absurd (omega arith)
+    by false e h = let z : ◌≡◌ {A = ℕ} 32 0 = ap answer_number (rw e at h) in absurd (omega arith)
 
 pub new_refuses : (t : List ℕ) → ((empty_system_of t).answer ≡ refused_by 32) ↔ (SystemWords t → ⊥)
 unfolding empty_system_of unless
 new_refuses t = (onto, by (eqb (length t) system_words) refl)
   where
     onto : (empty_system_of t).answer ≡ refused_by 32 → SystemWords t → ⊥
-    onto h words = let z : ◌≡◌ {A = ℕ} 0 32 = ap done_number (rw (eq-eqb _ _ words) at h) in absurd (omega arith)
+    onto h words = let z : ◌≡◌ {A = ℕ} 0 32 = ap answer_number (rw (eq-eqb _ _ words) at h) in absurd (omega arith)
 
     by : (b : Bool) → eqb (length t) system_words ≡ b → (SystemWords t → ⊥) → (empty_system_of t).answer ≡ refused_by 32
     by true e h = absurd (h (eqb-true _ _ e))
@@ -109,14 +108,14 @@ module _ (t : List ℕ) where
       })
 
   -- `build` accepts exactly the tables that are well formed for a run.
-  pub build_exactly : (build_system_of t ≡ Done.Accepted) ↔ (system_formed t false ≡ true)
+  pub build_exactly : (build_system_of t ≡ admitted) ↔ (system_formed t false ≡ true)
   unfolding build_system_of unless
   build_exactly = (onto, back)
     where
-      onto : build_system_of t ≡ Done.Accepted → system_formed t false ≡ true
+      onto : build_system_of t ≡ admitted → system_formed t false ≡ true
       onto e = let a = unless_on _ _ _ e in for_a_run a.0 (unless_on _ _ _ a.1).0
 
-      back : system_formed t false ≡ true → build_system_of t ≡ Done.Accepted
+      back : system_formed t false ≡ true → build_system_of t ≡ admitted
       back h = let k = all_started h in rw (k.0, k.1)
 
   -- it answers 32 exactly to those that are not well formed for building
@@ -126,8 +125,8 @@ module _ (t : List ℕ) where
     where
       by : (b : Bool) → system_formed t true ≡ b → (s : Bool) → all_below (graph_count t) (started t) ≡ s
           → build_system_of t ≡ refused_by 32 → system_formed t true ≡ false
-      by true e true f h = let z : ◌≡◌ {A = ℕ} 0 32 = ap done_number (rw (e, f) at h) in absurd (omega arith)
-      by true e false f h = let z : ◌≡◌ {A = ℕ} 29 32 = ap done_number (rw (e, f) at h) in absurd (omega arith)
+      by true e true f h = let z : ◌≡◌ {A = ℕ} 0 32 = ap answer_number (rw (e, f) at h) in absurd (omega arith)
+      by true e false f h = let z : ◌≡◌ {A = ℕ} 29 32 = ap answer_number (rw (e, f) at h) in absurd (omega arith)
       by false e s f h = e
 
 -- ---- a test that fails below a bound fails of some number
@@ -152,11 +151,11 @@ build_unstarted t = (by (system_formed t true) refl (all_below (graph_count t) (
   where
     by : (b : Bool) → system_formed t true ≡ b → (s : Bool) → all_below (graph_count t) (started t) ≡ s
         → build_system_of t ≡ refused_by 29 → (system_formed t true ≡ true) × Unstarted t
-    by true e true f h = let z : ◌≡◌ {A = ℕ} 0 29 = ap done_number (rw (e, f) at h) in absurd (omega arith)
+    by true e true f h = let z : ◌≡◌ {A = ℕ} 0 29 = ap answer_number (rw (e, f) at h) in absurd (omega arith)
     by true e false f h =
         let one = one_fails (started t) (graph_count t) f in
         (e, (one.0, (one.1.0, omega (arith, ltb-false 0 (process_count (graph_part t one.0)) one.1.1))))
-    by false e s f h = let z : ◌≡◌ {A = ℕ} 32 29 = ap done_number (rw e at h) in absurd (omega arith)
+    by false e s f h = let z : ◌≡◌ {A = ℕ} 32 29 = ap answer_number (rw e at h) in absurd (omega arith)
 
     back : (system_formed t true ≡ true) × Unstarted t → build_system_of t ≡ refused_by 29
     back h =

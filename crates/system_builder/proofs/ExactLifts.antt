@@ -1,5 +1,6 @@
 -- A call of a graph's own, made on the graph in a system: it is accepted where the graph accepts it, leaves the graph as it does, and
 -- the action that it adds has the communication that it is to have.
+use Rattle.std.specs.Prelude.{Err, ⊤}
 use Prim.Native.Nat.{ℕ, ◌+◌, ◌<◌, ◌≤◌}
 use mathlib.Core.Path.{◌≡◌, refl, sym, ap, ◌∙◌}
 use mathlib.Core.Bool.{true}
@@ -18,11 +19,9 @@ use Rattle.graph_tables.specs.Words.{action_count, kinds_of, action_kind}
 use Rattle.graph_tables.specs.Formed.{well_formed}
 use Rattle.graph_tables.specs.Handed.{handed_var}
 use Rattle.graph_tables.specs.Messages.{message_count}
-use Rattle.graph_tables.specs.Answers.{done_number, placed_number}
+use Rattle.graph_tables.specs.Answers.{Answer, admitted, answer_number}
 use Rattle.graph_tables.specs.declared.refusals.Refusal.{Refusal}
 use Rattle.graph_tables.specs.declared.handed.Vars.{Vars}
-use Rattle.graph_tables.specs.declared.answers.Placed.{Placed}
-use Rattle.graph_tables.specs.declared.answers.Done.{Done}
 use Rattle.graph_tables.proofs.MessageLaws.{plain_kind_lem, send_kind_lem, receive_kind_lem}
 use Rattle.graph_edits.specs.Edits.{with_expressions}
 use Rattle.graph_edits.specs.Lists.{list_of, plain, send, receive}
@@ -75,7 +74,7 @@ unfolding new_send_of send_check send_room each_below all_below sum_below with_e
 no_send G m = refl
 
 -- ---- a call that asks a check first, which is passed
-only_ok : {A : Type 0} (refuse : Refusal → A) (number : A → ℕ) (check : Done) (t : List ℕ) (o : Outcome A) → check ≡ Done.Accepted
+only_ok : {A : Type 0} (refuse : Refusal → A) (number : A → ℕ) (check : Answer ⊤) (t : List ℕ) (o : Outcome A) → check ≡ admitted
     → number o.answer ≡ 0 → number (only_if refuse check t o).answer ≡ 0
 only_ok refuse number check t o e k = rw e k
 
@@ -113,31 +112,31 @@ module _ (t u : List ℕ) (g : ℕ) (h : system_formed u true ≡ true) (there :
   formed = part_formed u g (apart u true h) there
 
   -- ---- the checks of the system pass
-  member_ok : member_check u g ≡ Done.Accepted
+  member_ok : member_check u g ≡ admitted
   unfolding member_check unless
   member_ok = rw (h, lt-ltb _ _ there)
 
-  known_ok : (q : ℕ) → q < channel_count t → known_check u g q ≡ Done.Accepted
+  known_ok : (q : ℕ) → q < channel_count t → known_check u g q ≡ admitted
   unfolding known_check unless
   known_ok q l = sym (then_on member_ok (rw (lt-ltb q (channel_count u) (rw channels l))))
 
   sent_ok : (q : ℕ) (m : ℕ → List ℕ) (count : ℕ) → count ≤ message_room → all_below count (sent_typed G m) ≡ true → count ≡ width_of u q
-      → all_below count (sent_fits u q G m) ≡ true → sent_check u q G m count ≡ Done.Accepted
+      → all_below count (sent_fits u q G m) ≡ true → sent_check u q G m count ≡ admitted
   unfolding sent_check if_read unless
   sent_ok q m count few typed wide fits = rw (le-leb _ _ few, typed, eq-eqb _ _ wide, fits)
 
   taken_ok : (q : ℕ) (v : Vars) → v.count ≤ message_room → all_below v.count (var_known G v) ≡ true → v.count ≡ width_of u q
-      → all_below v.count (received_fits u q G v) ≡ true → received_check u q G v ≡ Done.Accepted
+      → all_below v.count (received_fits u q G v) ≡ true → received_check u q G v ≡ admitted
   unfolding received_check if_read unless
   taken_ok q v few known wide fits = rw (le-leb _ _ few, known, eq-eqb _ _ wide, fits)
 
   -- ---- calls that add no action
-  placed : (call : List ℕ → Outcome Placed) → placed_number (call G).answer ≡ 0 → placed_number (placed_on call u g).answer ≡ 0
-  placed call = only_ok Placed.Refused placed_number (member_check u g) u (on_part call u g) member_ok
+  placed : (call : List ℕ → Outcome (Answer ℕ)) → answer_number (call G).answer ≡ 0 → answer_number (placed_on call u g).answer ≡ 0
+  placed call = only_ok Err answer_number (member_check u g) u (on_part call u g) member_ok
 
-  done : (call : List ℕ → Outcome Done) → done_number (call G).answer ≡ 0
-      → done_number (only_if Done.Refused (member_check u g) u (on_part call u g)).answer ≡ 0
-  done call = only_ok Done.Refused done_number (member_check u g) u (on_part call u g) member_ok
+  done : (call : List ℕ → Outcome (Answer ⊤)) → answer_number (call G).answer ≡ 0
+      → answer_number (only_if Err (member_check u g) u (on_part call u g)).answer ≡ 0
+  done call = only_ok Err answer_number (member_check u g) u (on_part call u g) member_ok
 
   -- ---- a plain action
   no_message_lem : (H : List ℕ) (a q : ℕ) (m : Message) → Says t q H a m → action_kind H a ≡ plain_kind → ⊥
@@ -181,7 +180,7 @@ module _ (t u : List ℕ) (g : ℕ) (h : system_formed u true ≡ true) (there :
         record {
           fit = tt;
           ok =
-              only_ok Placed.Refused placed_number (send_check_on u g q.0 m count) u (telling g (On Send q) (send_part u g m count))
+              only_ok Err answer_number (send_check_on u g q.0 m count) u (telling g (On Send q) (send_part u g m count))
               (sym (then_on (known_ok q.0 l)
               (sym (sent_ok q.0 m count was.few
               (all_from (sent_typed G m) count (λ e k. is_kinded (type_of (kinds_of G) (m e)) (was.expression e k).1))
@@ -207,9 +206,9 @@ module _ (t u : List ℕ) (g : ℕ) (h : system_formed u true ≡ true) (there :
         record {
           fit = probe;
           ok =
-              only_ok Placed.Refused placed_number (known_check u g q.0) u (telling g (On k q) (send_part u g no_values 0)) (known_ok q.0 l)
-              (sym (ap (λ (o : Outcome Placed). placed_number o.answer) alike) ∙ ok);
-          same = sym (ap (λ (o : Outcome Placed). o.table) alike);
+              only_ok Err answer_number (known_check u g q.0) u (telling g (On k q) (send_part u g no_values 0)) (known_ok q.0 l)
+              (sym (ap (λ (o : Outcome (Answer ℕ)). answer_number o.answer) alike) ∙ ok);
+          same = sym (ap (λ (o : Outcome (Answer ℕ)). o.table) alike);
           tells = one ((adds_send G m count).more ok) (On k q) refl word;
         }
 
@@ -250,7 +249,7 @@ module _ (t u : List ℕ) (g : ℕ) (h : system_formed u true ≡ true) (there :
         record {
           fit = tt;
           ok =
-              only_ok Placed.Refused placed_number (receive_check_on u g q.0 v) u (telling g (On Receive q) (receive_part u g v))
+              only_ok Err answer_number (receive_check_on u g q.0 v) u (telling g (On Receive q) (receive_part u g v))
               (sym (then_on (known_ok q.0 l)
               (sym (taken_ok q.0 v was.few
               (all_from (var_known G v) v.count (λ e k. lt-ltb _ _ (was.var e k)))

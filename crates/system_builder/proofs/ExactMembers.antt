@@ -1,4 +1,6 @@
 -- The calls of a well-formed system's channels and graphs make them.
+use Rattle.graph_tables.specs.Answers.{Answer, admitted}
+use Rattle.std.specs.Prelude.{⊤}
 use Prim.Native.Nat.{ℕ, zero, suc, ◌+◌, ◌<◌, ◌≤◌}
 use mathlib.Core.Path.{◌≡◌, refl, sym, ap, subst, ◌∙◌}
 use mathlib.Core.Bool.{Bool, true, false, cond}
@@ -15,7 +17,6 @@ use Rattle.grammar.specs.declared.values.«Type».TheVariants as Kinded
 use Rattle.graph_tables.specs.Sizes.{message_room, word32, no_kind}
 use Rattle.graph_tables.specs.Words.{Words, action_count}
 use Rattle.graph_tables.specs.Formed.{well_formed}
-use Rattle.graph_tables.specs.declared.answers.Done.{Done}
 use Rattle.graph_tables.proofs.SoundLaws.{sound}
 use Rattle.graph_tables.proofs.KeptLaws as own-parts
 use Rattle.graph_edits.specs.Lists.{action_at}
@@ -77,7 +78,7 @@ reached_both {t} {u} xs ys {p = p} {q} x y = record {
 }
 
 -- what a call leaves whose check is passed
-placed_there : (c : Done) (t : List ℕ) (n : ℕ) (u : List ℕ) → c ≡ Done.Accepted → (placed_if c t n u).table ≡ u
+placed_there : (c : Answer ⊤) (t : List ℕ) (n : ℕ) (u : List ℕ) → c ≡ admitted → (placed_if c t n u).table ≡ u
 placed_there c t n u e = rw e
 
 -- ---- what is stored of a channel is what is handed
@@ -121,7 +122,7 @@ module _ (t : List ℕ) (h : system_formed t true ≡ true) where
     fits : CapacityFits (capacity_of t q)
     fits = capacity_fits _ _ (s.channel q l).bound
 
-    channel_ok : channel_check u (kinds_in t q) (capacity_of t q) ≡ Done.Accepted
+    channel_ok : channel_check u (kinds_in t q) (capacity_of t q) ≡ admitted
     unfolding channel_check has_room unless
     channel_ok =
         rw (
@@ -205,7 +206,7 @@ module _ (t : List ℕ) (h : system_formed t true ≡ true) where
     formed : well_formed P true ≡ true
     formed = part_formed t g f l
 
-    graph_ok : graph_check u ≡ Done.Accepted
+    graph_ok : graph_check u ≡ admitted
     unfolding graph_check unless
     graph_ok = rw (x.formed, lt-ltb _ _ small)
 

@@ -1,4 +1,5 @@
 -- 32 is the answer exactly where no chain of calls builds what is in the table of a system.
+use Rattle.std.specs.Prelude.{Err, ⊤}
 use Prim.Native.Nat.{ℕ}
 use mathlib.Core.Path.{◌≡◌, refl, sym, ap, ◌∙◌}
 use mathlib.Core.Logic.{◌↔◌}
@@ -9,10 +10,8 @@ use borrow.Author.Tests.{eq-eqb, lt-ltb}
 use Rattle.laws.specs.Ladder.{unless}
 use Rattle.laws.proofs.BelowLaws.{all_from}
 use Rattle.graph_tables.specs.Refusals.{refusal}
-use Rattle.graph_tables.specs.Answers.{done_number, placed_number, var_type_number}
+use Rattle.graph_tables.specs.Answers.{Answer, answer_number}
 use Rattle.graph_tables.specs.declared.refusals.Refusal.{Refusal}
-use Rattle.graph_tables.specs.declared.answers.Placed.{Placed}
-use Rattle.graph_tables.specs.declared.answers.Done.{Done}
 use Rattle.graph_checks.specs.Checks.{refused_by}
 use Rattle.graph_checks.proofs.CheckLaws.{then_stops}
 use Rattle.graph_builder.specs.Building.{Outcome, placed_if}
@@ -96,12 +95,12 @@ module _ (s t : List ℕ) (words : SystemWords s) where
   )
 
 -- ---- calls on a table that is not a well-formed system
-bad_placed : (t : List ℕ) (rest : Done) (n : ℕ) (u : List ℕ) → system_formed t true ≡ false
-    → placed_number (placed_if (on_system t rest) t n u).answer ≡ 32
+bad_placed : (t : List ℕ) (rest : Answer ⊤) (n : ℕ) (u : List ℕ) → system_formed t true ≡ false
+    → answer_number (placed_if (on_system t rest) t n u).answer ≡ 32
 unfolding unless
 bad_placed t rest n u bad = rw bad
 
-only_bad : {A : Type 0} (refuse : Refusal → A) (number : A → ℕ) → number (refuse (refusal 32)) ≡ 32 → (check : Done) (t : List ℕ)
+only_bad : {A : Type 0} (refuse : Refusal → A) (number : A → ℕ) → number (refuse (refusal 32)) ≡ 32 → (check : Answer ⊤) (t : List ℕ)
     (o : Outcome A) → check ≡ refused_by 32 → number (only_if refuse check t o).answer ≡ 32
 only_bad refuse number e check t o bad = rw bad e
 
@@ -114,11 +113,11 @@ module _ (t : List ℕ) (g : ℕ) (bad : system_formed t true ≡ false) where
   unfolding known_check
   bad_known q = sym (then_stops _ bad_member)
 
-  on_placed : (o : Outcome Placed) → placed_number (only_if Placed.Refused (member_check t g) t o).answer ≡ 32
-  on_placed o = only_bad Placed.Refused placed_number refl (member_check t g) t o bad_member
+  on_placed : (o : Outcome (Answer ℕ)) → answer_number (only_if Err (member_check t g) t o).answer ≡ 32
+  on_placed o = only_bad Err answer_number refl (member_check t g) t o bad_member
 
-  on_done : (o : Outcome Done) → done_number (only_if Done.Refused (member_check t g) t o).answer ≡ 32
-  on_done o = only_bad Done.Refused done_number refl (member_check t g) t o bad_member
+  on_done : (o : Outcome (Answer ⊤)) → answer_number (only_if Err (member_check t g) t o).answer ≡ 32
+  on_done o = only_bad Err answer_number refl (member_check t g) t o bad_member
 
   bad_on : (c : OnGraph) → answer_on t g c ≡ 32
   unfolding new_send_on new_receive_on new_probe_on send_check_on receive_check_on
@@ -132,10 +131,10 @@ module _ (t : List ℕ) (g : ℕ) (bad : system_formed t true ≡ false) where
   bad_on (new_initial_location l) = on_placed _
   bad_on (add_transition pre a post guarded ws l) = on_done _
   bad_on (new_send q m count) =
-      only_bad Placed.Refused placed_number refl (send_check_on t g q.0 m count) t _ (sym (then_stops _ (bad_known q.0)))
+      only_bad Err answer_number refl (send_check_on t g q.0 m count) t _ (sym (then_stops _ (bad_known q.0)))
   bad_on (new_receive q v) =
-      only_bad Placed.Refused placed_number refl (receive_check_on t g q.0 v) t _ (sym (then_stops _ (bad_known q.0)))
-  bad_on (new_probe k q) = only_bad Placed.Refused placed_number refl (known_check t g q.0) t _ (bad_known q.0)
+      only_bad Err answer_number refl (receive_check_on t g q.0 v) t _ (sym (then_stops _ (bad_known q.0)))
+  bad_on (new_probe k q) = only_bad Err answer_number refl (known_check t g q.0) t _ (bad_known q.0)
 
 bad_call : (t : List ℕ) (c : Call) → system_formed t true ≡ false → answer_of t c ≡ 32
 unfolding new_graph_of new_channel_of graph_check channel_check
@@ -157,19 +156,19 @@ module _ (s t : List ℕ) (words : SystemWords s) where
   pub call_32 : (c : Call) → (answer_of t c ≡ 32) ↔ (Buildable s t → ⊥)
   call_32 c = exactly (system_formed t true) (formed_exactly s t words) (answer_of t c) (λ h. call_known t h c) (bad_call t c)
 
-  pub kind_32 : (g v : ℕ) → (var_type_number (var_type_in t g v) ≡ 32) ↔ (Buildable s t → ⊥)
+  pub kind_32 : (g v : ℕ) → (answer_number (var_type_in t g v) ≡ 32) ↔ (Buildable s t → ⊥)
   unfolding var_type_in
   kind_32 g v =
-      exactly (system_formed t true) (formed_exactly s t words) (var_type_number (var_type_in t g v)) (λ h. kind_known_lem t h g v)
+      exactly (system_formed t true) (formed_exactly s t words) (answer_number (var_type_in t g v)) (λ h. kind_known_lem t h g v)
       (λ bad. rw (bad_member t g bad))
 
-  pub build_32 : (done_number (build_system_of t) ≡ 32) ↔ (Buildable s t → ⊥)
+  pub build_32 : (answer_number (build_system_of t) ≡ 32) ↔ (Buildable s t → ⊥)
   unfolding build_system_of unless
   build_32 =
-      exactly (system_formed t true) (formed_exactly s t words) (done_number (build_system_of t)) (build_known t) (λ bad. rw bad)
+      exactly (system_formed t true) (formed_exactly s t words) (answer_number (build_system_of t)) (build_known t) (λ bad. rw bad)
 
   -- A read of a channel answers 32 exactly when none build it, or some graph has no process.
-  pub channel_32 : (q : ℕ) → (done_number (channel_in t q).answer ≡ 32) ↔ (Buildable s t × Startable t → ⊥)
+  pub channel_32 : (q : ℕ) → (answer_number (channel_in t q).answer ≡ 32) ↔ (Buildable s t × Startable t → ⊥)
   unfolding channel_in read_check unless
   channel_32 q =
-      exactly (system_formed t false) (runnable_exactly s t words) (done_number (channel_in t q).answer) (read_known t q) (λ bad. rw bad)
+      exactly (system_formed t false) (runnable_exactly s t words) (answer_number (channel_in t q).answer) (read_known t q) (λ bad. rw bad)

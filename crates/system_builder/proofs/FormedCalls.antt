@@ -1,4 +1,5 @@
 -- Each building call leaves a well-formed system well formed: the parts of the theorem.
+use Rattle.std.specs.Prelude.{Ok, Err, ⊤}
 use Prim.Native.Nat.{ℕ, ◌+◌, ◌<◌}
 use mathlib.Core.Path.{◌≡◌, refl, sym, ap, ◌∙◌}
 use mathlib.Core.Bool.{true}
@@ -13,11 +14,9 @@ use Rattle.graph_tables.specs.Layout.{table_words}
 use Rattle.graph_tables.specs.Sizes.{action_room}
 use Rattle.graph_tables.specs.Words.{action_count}
 use Rattle.graph_tables.specs.Formed.{well_formed}
-use Rattle.graph_tables.specs.Answers.{placed_number}
+use Rattle.graph_tables.specs.Answers.{Answer, admitted, answer_number}
 use Rattle.graph_tables.specs.declared.refusals.Refusal.{Refusal}
 use Rattle.graph_tables.specs.declared.handed.Vars.{Vars}
-use Rattle.graph_tables.specs.declared.answers.Placed.{Placed}
-use Rattle.graph_tables.specs.declared.answers.Done.{Done}
 use Rattle.graph_tables.proofs.NumberLaws.{above_ok}
 use Rattle.graph_tables.proofs.SoundLaws.{sound}
 use Rattle.graph_checks.proofs.CheckLaws.{unless_on, then_both}
@@ -166,21 +165,21 @@ module _ (t : List ℕ) (f : Formed t true) (g : ℕ) (known : g < graph_count t
       (same_actions t own_words true f g known own_formed refl (λ a l. same_action own_words a)))
 
   -- one that adds an action, and tells its communication
-  tells_formed : (c : Own.Call) (fit : Own.Fits c) (o : Outcome Placed) (m : Communication) → AddsOne own_words c o
+  tells_formed : (c : Own.Call) (fit : Own.Fits c) (o : Outcome (Answer ℕ)) (m : Communication) → AddsOne own_words c o
       → (Own.answer_of own_words c ≡ 0 → communication_fits t (communication_word m) o.table (action_count own_words) ≡ true)
       → Formed (told g m o.answer (with_graph t g o.table)) true
   tells_formed c fit o m adds fits = by o.answer refl
     where
-      by : (p : Placed) → o.answer ≡ p → Formed (told g m o.answer (with_graph t g o.table)) true
-      by (Placed.At a) e =
-          let ok : Own.answer_of own_words c ≡ 0 = adds.number ∙ ap placed_number e in
+      by : (p : Answer ℕ) → o.answer ≡ p → Formed (told g m o.answer (with_graph t g o.table)) true
+      by (Ok a) e =
+          let ok : Own.answer_of own_words c ≡ 0 = adds.number ∙ ap answer_number e in
           let here : a ≡ action_count own_words = adds.place a e in
           let formed : well_formed o.table true ≡ true = rw adds.table at (own.stays_formed own_words c fit own_formed) in
           rw (e, here)
           (action_formed_lem t f g known o.table formed (adds.more ok)
           (λ b l. rw adds.table at (after_same own_words own_formed c fit b l))
           (communication_word m) (fits ok))
-      by (Placed.Refused r) e =
+      by (Err r) e =
           let bad : 0 < Own.answer_of own_words c = rw (adds.number, e) (omega (arith, above_ok r)) in
           rw e (left_formed o.table (sym adds.table ∙ own.refused_leaves own_words c bad))
 
@@ -189,13 +188,13 @@ module _ (t : List ℕ) (f : Formed t true) (g : ℕ) (known : g < graph_count t
       tells_formed Own.new_action tt (new_action_of own_words) Plain (adds_plain own_words) (plain_fits t own_words own_formed)
 
   module _ (q : Channel) (there : q.0 < channel_count t) where
-    sent_formed : (m : ℕ → List ℕ) (count : ℕ) → sent_check t q.0 own_words m count ≡ Done.Accepted
+    sent_formed : (m : ℕ → List ℕ) (count : ℕ) → sent_check t q.0 own_words m count ≡ admitted
         → Formed (told g (On Send q) (new_send_of own_words m count).answer (with_graph t g (new_send_of own_words m count).table)) true
     sent_formed m count check =
         tells_formed (Own.new_send m count) tt (new_send_of own_words m count) (On Send q) (adds_send own_words m count)
         (λ ok. send_fits_lem t own_words own_formed q there m count ok check)
 
-    received_formed : (v : Vars) → received_check t q.0 own_words v ≡ Done.Accepted
+    received_formed : (v : Vars) → received_check t q.0 own_words v ≡ admitted
         → Formed (told g (On Receive q) (new_receive_of own_words v).answer (with_graph t g (new_receive_of own_words v).table)) true
     received_formed v check =
         tells_formed (Own.new_receive v) tt (new_receive_of own_words v) (On Receive q) (adds_receive own_words v)
@@ -208,24 +207,24 @@ module _ (t : List ℕ) (f : Formed t true) (g : ℕ) (known : g < graph_count t
         (λ ok. probe_fits t own_words own_formed q there ok k p)
 
 -- ---- a call that asks a check first
-only_formed : {A : Type 0} (refuse : Refusal → A) (c : Done) (t : List ℕ) (o : Outcome A) → Formed t true
-    → (c ≡ Done.Accepted → Formed o.table true) → Formed (only_if refuse c t o).table true
-only_formed refuse Done.Accepted t o f h = h refl
-only_formed refuse (Done.Refused r) t o f h = f
+only_formed : {A : Type 0} (refuse : Refusal → A) (c : Answer ⊤) (t : List ℕ) (o : Outcome A) → Formed t true
+    → (c ≡ admitted → Formed o.table true) → Formed (only_if refuse c t o).table true
+only_formed refuse (Ok _) t o f h = h refl
+only_formed refuse (Err r) t o f h = f
 
 -- what an accepted check says of the channel, and of the values
 module _ (t : List ℕ) (g q : ℕ) where
-  pub known_channel : known_check t g q ≡ Done.Accepted → q < channel_count t
+  pub known_channel : known_check t g q ≡ admitted → q < channel_count t
   unfolding known_check
   known_channel e = ltb-true _ _ (unless_on _ _ _ (then_both _ _ e).1).0
 
-  pub send_both : (m : ℕ → List ℕ) (count : ℕ) → send_check_on t g q m count ≡ Done.Accepted
-      → (known_check t g q ≡ Done.Accepted) × (sent_check t q (graph_part t g) m count ≡ Done.Accepted)
+  pub send_both : (m : ℕ → List ℕ) (count : ℕ) → send_check_on t g q m count ≡ admitted
+      → (known_check t g q ≡ admitted) × (sent_check t q (graph_part t g) m count ≡ admitted)
   unfolding send_check_on
   send_both m count e = then_both _ _ e
 
-  pub receive_both : (v : Vars) → receive_check_on t g q v ≡ Done.Accepted
-      → (known_check t g q ≡ Done.Accepted) × (received_check t q (graph_part t g) v ≡ Done.Accepted)
+  pub receive_both : (v : Vars) → receive_check_on t g q v ≡ admitted
+      → (known_check t g q ≡ admitted) × (received_check t q (graph_part t g) v ≡ admitted)
   unfolding receive_check_on
   receive_both v e = then_both _ _ e
 
@@ -241,35 +240,35 @@ module _ (t : List ℕ) (f : Formed t true) (g : ℕ) where
   plain_action : Formed (new_action_on t g).table true
   plain_action = by (member_check t g) refl
     where
-      by : (c : Done) → member_check t g ≡ c → Formed (new_action_on t g).table true
-      by Done.Accepted e = rw e (plain_formed_lem t f g (member_ready t g e).1)
-      by (Done.Refused r) e = rw e f
+      by : (c : Answer ⊤) → member_check t g ≡ c → Formed (new_action_on t g).table true
+      by (Ok _) e = rw e (plain_formed_lem t f g (member_ready t g e).1)
+      by (Err r) e = rw e f
 
   pub on_formed : (c : OnGraph) → Fits c → Formed (after_on t g c) true
   unfolding new_send_on new_receive_on new_probe_on
-  on_formed (new_var v) fit = no_action Placed.Refused (λ (G : List ℕ). new_var_of G v) (Own.new_var v) fit tt refl
-  on_formed new_clock fit = no_action Placed.Refused new_clock_of Own.new_clock fit tt refl
+  on_formed (new_var v) fit = no_action Err (λ (G : List ℕ). new_var_of G v) (Own.new_var v) fit tt refl
+  on_formed new_clock fit = no_action Err new_clock_of Own.new_clock fit tt refl
   on_formed new_action fit = plain_action
-  on_formed (new_process l) fit = no_action Done.Refused (λ (G : List ℕ). new_process_of G l) (Own.new_process l) fit tt refl
-  on_formed (add_reset a clock) fit = no_action Done.Refused (λ (G : List ℕ). add_reset_of G a clock) (Own.add_reset a clock) fit tt refl
-  on_formed (add_effect a v ws) fit = no_action Done.Refused (λ (G : List ℕ). add_effect_of G a v ws) (Own.add_effect a v ws) fit tt refl
+  on_formed (new_process l) fit = no_action Err (λ (G : List ℕ). new_process_of G l) (Own.new_process l) fit tt refl
+  on_formed (add_reset a clock) fit = no_action Err (λ (G : List ℕ). add_reset_of G a clock) (Own.add_reset a clock) fit tt refl
+  on_formed (add_effect a v ws) fit = no_action Err (λ (G : List ℕ). add_effect_of G a v ws) (Own.add_effect a v ws) fit tt refl
   on_formed (new_timed_location l) fit =
-      no_action Placed.Refused (λ (G : List ℕ). new_timed_location_of G l) (Own.new_timed_location l) fit tt refl
+      no_action Err (λ (G : List ℕ). new_timed_location_of G l) (Own.new_timed_location l) fit tt refl
   on_formed (new_initial_location l) fit =
-      no_action Placed.Refused (λ (G : List ℕ). new_initial_of G l) (Own.new_initial_location l) fit tt refl
+      no_action Err (λ (G : List ℕ). new_initial_of G l) (Own.new_initial_location l) fit tt refl
   on_formed (add_transition pre a post guarded ws l) fit =
-      no_action Done.Refused (λ (G : List ℕ). add_transition_of G pre a post guarded ws l) (Own.add_transition pre a post guarded ws l) fit tt
+      no_action Err (λ (G : List ℕ). add_transition_of G pre a post guarded ws l) (Own.add_transition pre a post guarded ws l) fit tt
       refl
   on_formed (new_send q m count) fit =
-      only_formed Placed.Refused (send_check_on t g q.0 m count) t (telling g (On Send q) (send_part t g m count)) f
+      only_formed Err (send_check_on t g q.0 m count) t (telling g (On Send q) (send_part t g m count)) f
       (λ e.
       let both = send_both t g q.0 m count e in
       sent_formed t f g (member_ready t g (known_member t g q.0 both.0)).1 q (known_channel t g q.0 both.0) m count both.1)
   on_formed (new_receive q v) fit =
-      only_formed Placed.Refused (receive_check_on t g q.0 v) t (telling g (On Receive q) (receive_part t g v)) f
+      only_formed Err (receive_check_on t g q.0 v) t (telling g (On Receive q) (receive_part t g v)) f
       (λ e.
       let both = receive_both t g q.0 v e in
       received_formed t f g (member_ready t g (known_member t g q.0 both.0)).1 q (known_channel t g q.0 both.0) v both.1)
   on_formed (new_probe k q) fit =
-      only_formed Placed.Refused (known_check t g q.0) t (telling g (On k q) (send_part t g no_values 0)) f
+      only_formed Err (known_check t g q.0) t (telling g (On k q) (send_part t g no_values 0)) f
       (λ e. probe_formed_lem t f g (member_ready t g (known_member t g q.0 e)).1 q (known_channel t g q.0 e) k fit)

@@ -4,7 +4,7 @@ use mathlib.Core.Path.{◌≡◌}
 use mathlib.Core.Logic.{◌≢◌}
 use mathlib.Core.Bool.{true}
 use mathlib.Core.List.{List, [], ◌∷◌}
-use Rattle.graph_tables.specs.Answers.{done_number, var_type_number}
+use Rattle.graph_tables.specs.Answers.{answer_number}
 use Rattle.system_tables.specs.Words.{SystemWords}
 use Rattle.system_tables.specs.Formed.{system_formed}
 use Rattle.system_tables.proofs.KeptLaws.{apart, together}
@@ -40,8 +40,8 @@ module _ (t : List ℕ) (words : SystemWords t) (calls : List Call) (fit : AllFi
   pub chain_known : (c : Call) → answer_of built c ≢ 32
   chain_known = call_known built chain_formed
 
-  pub chain_build_known : done_number (build_system_of built) ≢ 32
+  pub chain_build_known : answer_number (build_system_of built) ≢ 32
   chain_build_known = build_known built chain_formed
 
-  pub chain_kind_known : (g v : ℕ) → var_type_number (var_type_in built g v) ≢ 32
+  pub chain_kind_known : (g v : ℕ) → answer_number (var_type_in built g v) ≢ 32
   chain_kind_known = kind_known_lem built chain_formed

@@ -1,4 +1,5 @@
 -- On a well-formed system no call answers 32.
+use Rattle.std.specs.Prelude.{Ok, Err, ⊤}
 use Prim.Native.Nat.{ℕ}
 use mathlib.Core.Path.{◌≡◌, refl, sym, ◌∙◌}
 use mathlib.Core.Logic.{◌≢◌}
@@ -8,13 +9,11 @@ use native.Mathlib.Omega.{arith}
 use lib.Dec.{leb, ltb}
 use Rattle.laws.specs.Ladder.{unless}
 use Rattle.laws.specs.Below.{all_below}
-use Rattle.graph_tables.specs.Answers.{done_number, placed_number, var_type_number}
+use Rattle.graph_tables.specs.Answers.{Answer, admitted, answer_number}
 use Rattle.graph_tables.specs.Refusals.{number_of}
 use Rattle.graph_tables.specs.Sizes.{message_room}
 use Rattle.graph_tables.specs.declared.refusals.Refusal.{Refusal}
 use Rattle.graph_tables.specs.declared.handed.Vars.{Vars}
-use Rattle.graph_tables.specs.declared.answers.Placed.{Placed}
-use Rattle.graph_tables.specs.declared.answers.Done.{Done}
 use Rattle.graph_checks.specs.Checks.{refused_by}
 use Rattle.graph_builder.specs.Building.{Outcome, new_var_of, new_clock_of, new_action_of, new_process_of, add_reset_of, add_effect_of}
 use Rattle.graph_builder.specs.Building.{new_timed_location_of, new_initial_of, add_transition_of, var_type_of}
@@ -45,18 +44,18 @@ use Rattle.system_builder.proofs.SystemLaws.{member_ready}
 use Rattle.system_builder.proofs.ActionLaws.{part_formed}
 use Rattle.system_builder.proofs.MessageLaws.{known_member, send_known, receive_known}
 
-ok : Known Done.Accepted
+ok : Known admitted
 ok = omega arith
 
-one_rung : (b : Bool) (refused : Done) → Known refused → Known (unless b refused Done.Accepted)
-one_rung b refused h = else_known b refused Done.Accepted h ok
+one_rung : (b : Bool) (refused : Answer ⊤) → Known refused → Known (unless b refused admitted)
+one_rung b refused h = else_known b refused admitted h ok
 
 -- a call that asks a check first
 only_known : {A : Type 0} (refuse : Refusal → A) (number : A → ℕ) → ((r : Refusal) → number (refuse r) ≡ number_of r)
-    → (c : Done) (t : List ℕ) (o : Outcome A) → Known c → (c ≡ Done.Accepted → number o.answer ≢ 32)
+    → (c : Answer ⊤) (t : List ℕ) (o : Outcome A) → Known c → (c ≡ admitted → number o.answer ≢ 32)
     → number (only_if refuse c t o).answer ≢ 32
-only_known refuse number same Done.Accepted t o h k = k refl
-only_known refuse number same (Done.Refused r) t o h k = λ e. h (sym (same r) ∙ e)
+only_known refuse number same (Ok _) t o h k = k refl
+only_known refuse number same (Err r) t o h k = λ e. h (sym (same r) ∙ e)
 
 -- 5, where the list can be read
 fit_known : (few each : Bool) (count width : ℕ) (fits : Bool) → Known (if_read few each (fit_check count width fits))
@@ -96,21 +95,21 @@ module _ (t : List ℕ) (h : system_formed t true ≡ true) where
 
   -- the graph's own call does not, as its words are well formed
   module _ (g : ℕ) where
-    own_known : (c : Own.Call) → member_check t g ≡ Done.Accepted → Own.answer_of (graph_part t g) c ≢ 32
+    own_known : (c : Own.Call) → member_check t g ≡ admitted → Own.answer_of (graph_part t g) c ≢ 32
     own_known c e = own.call_known (graph_part t g) c (part_formed t g (apart t true h) (member_ready t g e).1)
 
-    placed_known : (call : List ℕ → Outcome Placed) (c : Own.Call)
-        → placed_number (call (graph_part t g)).answer ≡ Own.answer_of (graph_part t g) c
-        → placed_number (on_graph Placed.Refused call t g).answer ≢ 32
+    placed_known : (call : List ℕ → Outcome (Answer ℕ)) (c : Own.Call)
+        → answer_number (call (graph_part t g)).answer ≡ Own.answer_of (graph_part t g) c
+        → answer_number (on_graph Err call t g).answer ≢ 32
     placed_known call c same =
-        only_known Placed.Refused placed_number (λ r. refl) (member_check t g) t (on_part call t g) (member_known g)
+        only_known Err answer_number (λ r. refl) (member_check t g) t (on_part call t g) (member_known g)
         (λ e n. own_known c e (sym same ∙ n))
 
-    done_known : (call : List ℕ → Outcome Done) (c : Own.Call)
-        → done_number (call (graph_part t g)).answer ≡ Own.answer_of (graph_part t g) c
-        → done_number (on_graph Done.Refused call t g).answer ≢ 32
+    done_known : (call : List ℕ → Outcome (Answer ⊤)) (c : Own.Call)
+        → answer_number (call (graph_part t g)).answer ≡ Own.answer_of (graph_part t g) c
+        → answer_number (on_graph Err call t g).answer ≢ 32
     done_known call c same =
-        only_known Done.Refused done_number (λ r. refl) (member_check t g) t (on_part call t g) (member_known g)
+        only_known Err answer_number (λ r. refl) (member_check t g) t (on_part call t g) (member_known g)
         (λ e n. own_known c e (sym same ∙ n))
 
     on_known : (c : OnGraph) → answer_on t g c ≢ 32
@@ -126,15 +125,15 @@ module _ (t : List ℕ) (h : system_formed t true ≡ true) where
     on_known (add_transition pre a post guarded ws l) =
         done_known (λ (G : List ℕ). add_transition_of G pre a post guarded ws l) (Own.add_transition pre a post guarded ws l) refl
     on_known (new_send q m count) =
-        only_known Placed.Refused placed_number (λ r. refl) (send_check_on t g q.0 m count) t (telling g (On Send q) (send_part t g m count))
+        only_known Err answer_number (λ r. refl) (send_check_on t g q.0 m count) t (telling g (On Send q) (send_part t g m count))
         (send_check_known g q.0 m count)
         (λ e. own_known (Own.new_send m count) (known_member t g q.0 (send_known t g q.0 m count e)))
     on_known (new_receive q v) =
-        only_known Placed.Refused placed_number (λ r. refl) (receive_check_on t g q.0 v) t (telling g (On Receive q) (receive_part t g v))
+        only_known Err answer_number (λ r. refl) (receive_check_on t g q.0 v) t (telling g (On Receive q) (receive_part t g v))
         (receive_check_known g q.0 v)
         (λ e. own_known (Own.new_receive v) (known_member t g q.0 (receive_known t g q.0 v e)))
     on_known (new_probe k q) =
-        only_known Placed.Refused placed_number (λ r. refl) (known_check t g q.0) t (telling g (On k q) (send_part t g no_values 0))
+        only_known Err answer_number (λ r. refl) (known_check t g q.0) t (telling g (On k q) (send_part t g no_values 0))
         (both_known g q.0) (λ e. own_known (Own.new_send no_values 0) (known_member t g q.0 e))
 
   -- On a well-formed system no building call answers 32.
@@ -145,23 +144,23 @@ module _ (t : List ℕ) (h : system_formed t true ≡ true) where
   call_known (call_on_graph g c) = on_known g c
 
   -- Nor does `build`, or a question for the kind of a variable.
-  pub build_known : done_number (build_system_of t) ≢ 32
+  pub build_known : answer_number (build_system_of t) ≢ 32
   unfolding build_system_of unless
   build_known = rw h (one_rung (all_below (graph_count t) (started t)) (refused_by 29) (omega arith))
 
-  pub kind_known_lem : (g v : ℕ) → var_type_number (var_type_in t g v) ≢ 32
+  pub kind_known_lem : (g v : ℕ) → answer_number (var_type_in t g v) ≢ 32
   unfolding var_type_in
   kind_known_lem g v = by (member_check t g) refl (member_known g)
     where
-      by : (c : Done) → member_check t g ≡ c → Known c → var_type_number (type_if c (var_type_of (graph_part t g) v)) ≢ 32
-      by Done.Accepted e k = own.kind_known_lem (graph_part t g) v (part_formed t g (apart t true h) (member_ready t g e).1)
-      by (Done.Refused r) e k = k
+      by : (c : Answer ⊤) → member_check t g ≡ c → Known c → answer_number (type_if c (var_type_of (graph_part t g) v)) ≢ 32
+      by (Ok _) e k = own.kind_known_lem (graph_part t g) v (part_formed t g (apart t true h) (member_ready t g e).1)
+      by (Err r) e k = k
 
 -- On a system that `build` accepts a read of a channel does not answer 32.
-pub read_known : (t : List ℕ) (q : ℕ) → system_formed t false ≡ true → done_number (channel_in t q).answer ≢ 32
+pub read_known : (t : List ℕ) (q : ℕ) → system_formed t false ≡ true → answer_number (channel_in t q).answer ≢ 32
 unfolding channel_in read_check unless
 read_known t q h = by (read_check t q) (rw h (one_rung (ltb q (channel_count t)) (refused_by 30) (omega arith)))
   where
-    by : (c : Done) → Known c → done_number (read_if c (kinds_in t q) (capacity_of t q)).answer ≢ 32
-    by Done.Accepted k = k
-    by (Done.Refused r) k = k
+    by : (c : Answer ⊤) → Known c → answer_number (read_if c (kinds_in t q) (capacity_of t q)).answer ≢ 32
+    by (Ok _) k = k
+    by (Err r) k = k

@@ -1,4 +1,5 @@
 -- What a building call adds to a system, and that all else keeps its meaning.
+use Rattle.std.specs.Prelude.{Ok, Err, ⊤}
 use Prim.Native.Nat.{ℕ, ◌+◌, ◌<◌}
 use mathlib.Core.Path.{◌≡◌, refl, sym, ap, ◌∙◌}
 use mathlib.Core.Bool.{true}
@@ -7,9 +8,7 @@ use native.Mathlib.Nat.{lt_of_lt_of_le, le_refl}
 use native.Mathlib.Decide.{ℕ_discrete}
 use native.Mathlib.Omega.{arith}
 use Rattle.graph_tables.specs.Words.{action_count}
-use Rattle.graph_tables.specs.Answers.{placed_number}
-use Rattle.graph_tables.specs.declared.answers.Placed.{Placed}
-use Rattle.graph_tables.specs.declared.answers.Done.{Done}
+use Rattle.graph_tables.specs.Answers.{Answer, admitted, answer_number}
 use Rattle.graph_tables.proofs.NumberLaws.{above_ok}
 use Rattle.graph_tables.proofs.SoundLaws.{sound}
 use Rattle.graph_builder.specs.Building.{Outcome, placed_if}
@@ -106,7 +105,7 @@ on_stays t f g c fit =
 pub meaning_stays : (t : List ℕ) (c : Call) → CallFits c → system_formed t true ≡ true → Stays t (after t c)
 unfolding new_graph_of new_channel_of
 meaning_stays t new_graph fit h =
-    placed_if_lem (λ (o : Outcome Placed). Stays t o.table) (graph_check t) t _ _ (λ r. same_stays t (apart t true h)) (λ e.
+    placed_if_lem (λ (o : Outcome (Answer ℕ)). Stays t o.table) (graph_check t) t _ _ (λ r. same_stays t (apart t true h)) (λ e.
     let f = apart t true h in
     let s = (graph_ready t e).1 in
     record {
@@ -116,7 +115,7 @@ meaning_stays t new_graph fit h =
       channel = λ q l. channel_stays t (with_new_graph t) f q l (graph_row t f s q l);
     })
 meaning_stays t (new_channel k c) fit h =
-    placed_if_lem (λ (o : Outcome Placed). Stays t o.table) (channel_check t k c) t _ _ (λ r. same_stays t (apart t true h)) (λ e.
+    placed_if_lem (λ (o : Outcome (Answer ℕ)). Stays t o.table) (channel_check t k c) t _ _ (λ r. same_stays t (apart t true h)) (λ e.
     let f = apart t true h in
     let s = channel_ready t k c e in
     record {
@@ -150,10 +149,10 @@ pub told_reads : (t : List ℕ) (g : ℕ) (c : OnGraph) (m : Communication) → 
 told_reads t g c m h tells done = ap communication_in (told_word t (apart t true h) g c m tells done) ∙ communication_back m
 
 -- an accepted answer says that the check passed
-placed_reads : (P : List ℕ → Type 0) (c : Done) (t : List ℕ) (n : ℕ) (u : List ℕ) → placed_number (placed_if c t n u).answer ≡ 0
-    → (c ≡ Done.Accepted → P u) → P (placed_if c t n u).table
-placed_reads P Done.Accepted t n u e h = h refl
-placed_reads P (Done.Refused r) t n u e h = absurd (above_ok r e)
+placed_reads : (P : List ℕ → Type 0) (c : Answer ⊤) (t : List ℕ) (n : ℕ) (u : List ℕ) → answer_number (placed_if c t n u).answer ≡ 0
+    → (c ≡ admitted → P u) → P (placed_if c t n u).table
+placed_reads P (Ok _) t n u e h = h refl
+placed_reads P (Err r) t n u e h = absurd (above_ok r e)
 
 -- there is one graph more, without parts
 abbrev GraphAdded : List ℕ → List ℕ → Type 0

@@ -1,4 +1,5 @@
 -- The action that a building call of a graph adds, and the communication that fits it.
+use Rattle.std.specs.Prelude.{Ok, Err, ⊤}
 use Prim.Native.Nat.{ℕ, zero, suc, ◌+◌, ◌*◌, ◌≤◌, ◌<◌}
 use mathlib.Core.Path.{◌≡◌, refl, sym, ap, ◌∙◌}
 use mathlib.Core.Bool.{Bool, true, false}
@@ -19,10 +20,8 @@ use Rattle.graph_tables.specs.Words.{action_count, kind_at, kinds_of, action_kin
 use Rattle.graph_tables.specs.Formed.{well_formed}
 use Rattle.graph_tables.specs.Handed.{handed_var}
 use Rattle.graph_tables.specs.Messages.{is_plain, is_send, is_receive, message_count, value_kind}
-use Rattle.graph_tables.specs.Answers.{placed_number}
+use Rattle.graph_tables.specs.Answers.{Answer, admitted, answer_number}
 use Rattle.graph_tables.specs.declared.handed.Vars.{Vars}
-use Rattle.graph_tables.specs.declared.answers.Placed.{Placed}
-use Rattle.graph_tables.specs.declared.answers.Done.{Done}
 use Rattle.graph_tables.proofs.SoundLaws.{sound}
 use Rattle.graph_tables.proofs.NumberLaws.{above_ok}
 use Rattle.graph_tables.proofs.KeptLaws.{typed_grown}
@@ -87,10 +86,10 @@ module _ (G : List ℕ) (c : Call) (fit : Fits c) (x : StoredAction) (puts : Put
       ∙ ap kind_in new_at
 
 -- ---- the calls that add an action: what each leaves and answers, and the number of the action
-pub record AddsOne (G : List ℕ) (c : Call) (o : Outcome Placed) : Type 0 where
+pub record AddsOne (G : List ℕ) (c : Call) (o : Outcome (Answer ℕ)) : Type 0 where
   pub table : after G c ≡ o.table
-  pub number : answer_of G c ≡ placed_number o.answer
-  pub place : (a : ℕ) → o.answer ≡ Placed.At a → a ≡ action_count G
+  pub number : answer_of G c ≡ answer_number o.answer
+  pub place : (a : ℕ) → o.answer ≡ Ok a → a ≡ action_count G
   pub more : answer_of G c ≡ 0 → action_count o.table ≡ action_count G + 1
 
 pub adds_plain : (G : List ℕ) → AddsOne G new_action (new_action_of G)
@@ -164,16 +163,16 @@ is_kinded TableFull h = h
 is_kinded (TooDeep k) h = refl
 
 -- what the check of a list has found
-read_passed : (few each : Bool) (check : Done) → few ≡ true → each ≡ true → if_read few each check ≡ Done.Accepted → check ≡ Done.Accepted
+read_passed : (few each : Bool) (check : Answer ⊤) → few ≡ true → each ≡ true → if_read few each check ≡ admitted → check ≡ admitted
 unfolding if_read
 read_passed few each check e h k = rw (e, h) at k
 
-fit_passed : (count width : ℕ) (fits : Bool) → fit_check count width fits ≡ Done.Accepted → (count ≡ width) × (fits ≡ true)
+fit_passed : (count width : ℕ) (fits : Bool) → fit_check count width fits ≡ admitted → (count ≡ width) × (fits ≡ true)
 fit_passed count width fits e = let a = unless_on _ _ _ e in (eqb-true _ _ a.0, (unless_on _ _ _ a.1).0)
 
-accepted : (c : Done) (t : List ℕ) (n : ℕ) (u : List ℕ) → placed_number (placed_if c t n u).answer ≡ 0 → c ≡ Done.Accepted
-accepted Done.Accepted t n u e = refl
-accepted (Done.Refused r) t n u e = absurd (above_ok r e)
+accepted : (c : Answer ⊤) (t : List ℕ) (n : ℕ) (u : List ℕ) → answer_number (placed_if c t n u).answer ≡ 0 → c ≡ admitted
+accepted (Ok _) t n u e = refl
+accepted (Err r) t n u e = absurd (above_ok r e)
 
 module _ (t G : List ℕ) (h : well_formed G true ≡ true) (q : Channel) (known : q.0 < channel_count t) where
   module _ (m : ℕ → List ℕ) (count : ℕ) (ok : answer_of G (new_send m count) ≡ 0) where
@@ -208,7 +207,7 @@ module _ (t G : List ℕ) (h : well_formed G true ≡ true) (q : Channel) (known
         rw (send_no_receive sent (action_count G) sends, items, typed_grown (after_grown G h (new_send m count) tt) (m e) k typed)
 
     -- the check of its values passed: they are those of the channel
-    module _ (check : sent_check t q.0 G m count ≡ Done.Accepted) where
+    module _ (check : sent_check t q.0 G m count ≡ admitted) where
       sent_passed : (count ≡ width_of t q.0) × (all_below count (sent_fits t q.0 G m) ≡ true)
       unfolding sent_check sent_typed
       sent_passed =
@@ -271,7 +270,7 @@ module _ (t G : List ℕ) (h : well_formed G true ≡ true) (q : Channel) (known
         rw (receives, var) ((after_grown G h (new_receive v) tt).kinds (handed_var v e) (receive_was.var e l))
 
     -- the check of its variables passed: they are of the channel's kinds
-    module _ (check : received_check t q.0 G v ≡ Done.Accepted) where
+    module _ (check : received_check t q.0 G v ≡ admitted) where
       taken_passed : (v.count ≡ width_of t q.0) × (all_below v.count (received_fits t q.0 G v) ≡ true)
       unfolding received_check var_known
       taken_passed =

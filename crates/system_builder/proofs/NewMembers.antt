@@ -1,4 +1,5 @@
 -- A graph more, and a channel more, leave a well-formed system well formed.
+use Rattle.graph_tables.specs.Answers.{Answer}
 use Prim.Native.Nat.{ℕ, zero, suc, ◌+◌, ◌≤◌, ◌<◌}
 use mathlib.Core.Path.{◌≡◌, refl, sym, ap, ◌∙◌}
 use mathlib.Core.Bool.{true}
@@ -16,7 +17,6 @@ use Rattle.graph_tables.specs.Layout.{table_words}
 use Rattle.graph_tables.specs.Sizes.{message_room, no_kind}
 use Rattle.graph_tables.specs.Words.{Words, action_count}
 use Rattle.graph_tables.specs.Formed.{well_formed}
-use Rattle.graph_tables.specs.declared.answers.Placed.{Placed}
 use Rattle.graph_tables.proofs.SoundLaws.{sound}
 use Rattle.graph_edits.specs.Lists.{action_at}
 use Rattle.graph_edits.proofs.ListLaws.{list_length}
@@ -132,7 +132,7 @@ module _ (t : List ℕ) (f : Formed t true) (small : graph_count t < graph_room)
 pub graph_formed_lem : (t : List ℕ) → Formed t true → Formed (new_graph_of t).table true
 unfolding new_graph_of
 graph_formed_lem t f =
-    placed_if_lem (λ (o : Outcome Placed). Formed o.table true) (graph_check t) t _ _ (λ r. f) (λ e. more_formed t f (graph_ready t e).1)
+    placed_if_lem (λ (o : Outcome (Answer ℕ)). Formed o.table true) (graph_check t) t _ _ (λ r. f) (λ e. more_formed t f (graph_ready t e).1)
 
 -- ---- a channel more
 kind_word_lem : (k : Kind) → kind_word k < no_kind
@@ -311,5 +311,5 @@ pub channel_formed_lem : (t : List ℕ) (k : Kinds) (c : ChannelCapacity) → Ca
     → Formed (new_channel_of t k c).table true
 unfolding new_channel_of
 channel_formed_lem t k c fit f =
-    placed_if_lem (λ (o : Outcome Placed). Formed o.table true) (channel_check t k c) t _ _ (λ r. f)
+    placed_if_lem (λ (o : Outcome (Answer ℕ)). Formed o.table true) (channel_check t k c) t _ _ (λ r. f)
     (λ e. wider_formed t f k c fit (channel_ready t k c e))

@@ -1,5 +1,6 @@
 -- What holds of building a system. Further: BuildTheorems (`new` and `build`), KeptTheorems (a system stays well formed), KnownCalls (no 32),
 -- MeaningTheorems (what was there stays, what is added reads as it was handed), ExactTheorems (32 exactly where no calls build what is there).
+use Rattle.std.specs.Prelude.{Ok, Err, ⊤}
 use Prim.Native.Nat.{ℕ, ◌+◌, ◌-◌, ◌≤◌, ◌<◌}
 use mathlib.Core.Bool.{true}
 use mathlib.Core.Path.{◌≡◌, refl, ap, ◌∙◌}
@@ -7,10 +8,8 @@ use mathlib.Core.List.{List, ◌++◌}
 use native.Mathlib.Omega.{arith}
 use lib.ListN.{length, take, drop, take-append-drop}
 use Rattle.graph_tables.specs.Layout.{table_words}
-use Rattle.graph_tables.specs.Answers.{done_number, placed_number}
+use Rattle.graph_tables.specs.Answers.{Answer, admitted, answer_number}
 use Rattle.graph_tables.specs.declared.refusals.Refusal.{Refusal}
-use Rattle.graph_tables.specs.declared.answers.Placed.{Placed}
-use Rattle.graph_tables.specs.declared.answers.Done.{Done}
 use Rattle.graph_builder.specs.Building.{Outcome, placed_if, new_var_of, new_clock_of, new_action_of, new_process_of, add_reset_of, add_effect_of}
 use Rattle.graph_builder.specs.Building.{new_timed_location_of, new_initial_of, add_transition_of, new_send_of, new_receive_of}
 use Rattle.graph_builder.specs.Chains as Own
@@ -51,34 +50,34 @@ part_untouched : {A : Type 0} (number : A → ℕ) (call : List ℕ → Outcome 
     → (t : List ℕ) (g : ℕ) → Untouched number t (on_part call t g)
 part_untouched number call leaves t g l = ap (with_graph t g) (leaves (graph_part t g) l) ∙ part_back t g
 
-only_untouched : {A : Type 0} (refuse : Refusal → A) (number : A → ℕ) (c : Done) (t : List ℕ) (o : Outcome A) → Untouched number t o
+only_untouched : {A : Type 0} (refuse : Refusal → A) (number : A → ℕ) (c : Answer ⊤) (t : List ℕ) (o : Outcome A) → Untouched number t o
     → Untouched number t (only_if refuse c t o)
-only_untouched refuse number Done.Accepted t o h = h
-only_untouched refuse number (Done.Refused r) t o h = λ l. refl
+only_untouched refuse number (Ok _) t o h = h
+only_untouched refuse number (Err r) t o h = λ l. refl
 
-telling_untouched : (g : ℕ) (c : Communication) (o : Outcome Placed) (t : List ℕ) → Untouched placed_number t o
-    → Untouched placed_number t (telling g c o)
+telling_untouched : (g : ℕ) (c : Communication) (o : Outcome (Answer ℕ)) (t : List ℕ) → Untouched answer_number t o
+    → Untouched answer_number t (telling g c o)
 telling_untouched g c o t h = by o.answer refl
   where
-    by : (p : Placed) → o.answer ≡ p → 0 < placed_number o.answer → told g c o.answer o.table ≡ t
-    by (Placed.At a) e l = let z : 0 < 0 = rw e at l in absurd (omega arith)
-    by (Placed.Refused r) e l = ap (λ (p : Placed). told g c p o.table) e ∙ h l
+    by : (p : Answer ℕ) → o.answer ≡ p → 0 < answer_number o.answer → told g c o.answer o.table ≡ t
+    by (Ok a) e l = let z : 0 < 0 = rw e at l in absurd (omega arith)
+    by (Err r) e l = ap (λ (p : Answer ℕ). told g c p o.table) e ∙ h l
 
-placed : (c : Done) (t : List ℕ) (n : ℕ) (u : List ℕ) → Untouched placed_number t (placed_if c t n u)
-placed c t n u = placed_if_lem (Untouched placed_number t) c t n u (λ q h. refl) (λ a h. absurd (omega arith))
+placed : (c : Answer ⊤) (t : List ℕ) (n : ℕ) (u : List ℕ) → Untouched answer_number t (placed_if c t n u)
+placed c t n u = placed_if_lem (Untouched answer_number t) c t n u (λ q h. refl) (λ a h. absurd (omega arith))
 
 module _ (t : List ℕ) (g : ℕ) where
-  placed_on_lem : (call : List ℕ → Outcome Placed) → ((G : List ℕ) → Untouched placed_number G (call G))
-      → Untouched placed_number t (on_graph Placed.Refused call t g)
-  placed_on_lem call leaves = only_untouched Placed.Refused placed_number (member_check t g) t _ (part_untouched placed_number call leaves t g)
+  placed_on_lem : (call : List ℕ → Outcome (Answer ℕ)) → ((G : List ℕ) → Untouched answer_number G (call G))
+      → Untouched answer_number t (on_graph Err call t g)
+  placed_on_lem call leaves = only_untouched Err answer_number (member_check t g) t _ (part_untouched answer_number call leaves t g)
 
-  done_on_lem : (call : List ℕ → Outcome Done) → ((G : List ℕ) → Untouched done_number G (call G))
-      → Untouched done_number t (on_graph Done.Refused call t g)
-  done_on_lem call leaves = only_untouched Done.Refused done_number (member_check t g) t _ (part_untouched done_number call leaves t g)
+  done_on_lem : (call : List ℕ → Outcome (Answer ⊤)) → ((G : List ℕ) → Untouched answer_number G (call G))
+      → Untouched answer_number t (on_graph Err call t g)
+  done_on_lem call leaves = only_untouched Err answer_number (member_check t g) t _ (part_untouched answer_number call leaves t g)
 
-  send_untouched : (m : ℕ → List ℕ) (count : ℕ) → Untouched placed_number t (send_part t g m count)
+  send_untouched : (m : ℕ → List ℕ) (count : ℕ) → Untouched answer_number t (send_part t g m count)
   send_untouched m count =
-      part_untouched placed_number (λ (G : List ℕ). new_send_of G m count) (λ G. own.refused_leaves G (Own.new_send m count)) t g
+      part_untouched answer_number (λ (G : List ℕ). new_send_of G m count) (λ G. own.refused_leaves G (Own.new_send m count)) t g
 
   on_leaves : (c : OnGraph) → 0 < answer_on t g c → after_on t g c ≡ t
   unfolding new_send_on new_receive_on new_probe_on
@@ -97,14 +96,14 @@ module _ (t : List ℕ) (g : ℕ) where
       done_on_lem (λ (G : List ℕ). add_transition_of G pre a post guarded ws l)
       (λ G. own.refused_leaves G (Own.add_transition pre a post guarded ws l))
   on_leaves (new_send q m count) =
-      only_untouched Placed.Refused placed_number (send_check_on t g q.0 m count) t (telling g (On Send q) (send_part t g m count))
+      only_untouched Err answer_number (send_check_on t g q.0 m count) t (telling g (On Send q) (send_part t g m count))
       (telling_untouched g (On Send q) (send_part t g m count) t (send_untouched m count))
   on_leaves (new_receive q v) =
-      only_untouched Placed.Refused placed_number (receive_check_on t g q.0 v) t (telling g (On Receive q) (receive_part t g v))
+      only_untouched Err answer_number (receive_check_on t g q.0 v) t (telling g (On Receive q) (receive_part t g v))
       (telling_untouched g (On Receive q) (receive_part t g v) t
-      (part_untouched placed_number (λ (G : List ℕ). new_receive_of G v) (λ G. own.refused_leaves G (Own.new_receive v)) t g))
+      (part_untouched answer_number (λ (G : List ℕ). new_receive_of G v) (λ G. own.refused_leaves G (Own.new_receive v)) t g))
   on_leaves (new_probe k q) =
-      only_untouched Placed.Refused placed_number (known_check t g q.0) t (telling g (On k q) (send_part t g no_values 0))
+      only_untouched Err answer_number (known_check t g q.0) t (telling g (On k q) (send_part t g no_values 0))
       (telling_untouched g (On k q) (send_part t g no_values 0) t (send_untouched no_values 0))
 
 -- A refused call leaves every word.
@@ -122,26 +121,26 @@ widen : {t u : List ℕ} {b m : ℕ} (a n : ℕ) → a ≤ b → b + m ≤ a + n
 widen {b = b} a n low high e =
     record { sizes = e.sizes; same = λ i out. e.same i (λ k l p. out (b + k - a) (omega arith) (omega arith)) }
 
-only_row : {A : Type 0} (refuse : Refusal → A) (c : Done) (t : List ℕ) (o : Outcome A) (g : ℕ) → (c ≡ Done.Accepted → Row t o.table g)
+only_row : {A : Type 0} (refuse : Refusal → A) (c : Answer ⊤) (t : List ℕ) (o : Outcome A) (g : ℕ) → (c ≡ admitted → Row t o.table g)
     → Row t (only_if refuse c t o).table g
-only_row refuse Done.Accepted t o g h = h refl
-only_row refuse (Done.Refused r) t o g h = record { sizes = refl; same = λ i out. refl }
+only_row refuse (Ok _) t o g h = h refl
+only_row refuse (Err r) t o g h = record { sizes = refl; same = λ i out. refl }
 
-telling_row : (g : ℕ) (c : Communication) (o : Outcome Placed) (t : List ℕ) → HasWord o.table g o.answer → Row t o.table g
+telling_row : (g : ℕ) (c : Communication) (o : Outcome (Answer ℕ)) (t : List ℕ) → HasWord o.table g o.answer → Row t o.table g
     → Row t (telling g c o).table g
 telling_row g c o t word h = by o.answer refl
   where
-    by : (p : Placed) → o.answer ≡ p → Row t (told g c o.answer o.table) g
-    by (Placed.At a) e =
+    by : (p : Answer ℕ) → o.answer ≡ p → Row t (told g c o.answer o.table) g
+    by (Ok a) e =
         let small : a < action_room = (word a e).2 in
         rw e (then_elsewhere h
         (set_elsewhere o.table (communication_cell g a) (communication_word c) (member_row g) member_span (omega arith) (omega arith)))
-    by (Placed.Refused r) e = rw e h
+    by (Err r) e = rw e h
 
 module _ (t : List ℕ) (g : ℕ) where
   part_row : {A : Type 0} (call : List ℕ → Outcome A)
       → ((G : List ℕ) → well_formed G true ≡ true → well_formed (call G).table true ≡ true)
-      → member_check t g ≡ Done.Accepted → Row t (on_part call t g).table g
+      → member_check t g ≡ admitted → Row t (on_part call t g).table g
   part_row call keeps e =
       let r = member_ready t g e in
       let f = apart t true r.0 in
@@ -155,31 +154,31 @@ module _ (t : List ℕ) (g : ℕ) where
       → Row t (on_graph refuse call t g).table g
   on_row refuse call keeps = only_row refuse (member_check t g) t (on_part call t g) g (part_row call keeps)
 
-  message_row : (check : Done) (c : Communication) (call : List ℕ → Outcome Placed) → PutsAction call
-      → (check ≡ Done.Accepted → member_check t g ≡ Done.Accepted)
-      → Row t (only_if Placed.Refused check t (telling g c (on_part call t g))).table g
+  message_row : (check : Answer ⊤) (c : Communication) (call : List ℕ → Outcome (Answer ℕ)) → PutsAction call
+      → (check ≡ admitted → member_check t g ≡ admitted)
+      → Row t (only_if Err check t (telling g c (on_part call t g))).table g
   message_row check c call puts known =
-      only_row Placed.Refused check t (telling g c (on_part call t g)) g (λ e.
+      only_row Err check t (telling g c (on_part call t g)) g (λ e.
       telling_row g c (on_part call t g) t (has_word call puts t g (known e)) (part_row call (λ G h. (puts G h).0) (known e)))
 
   row_alone : (c : OnGraph) → Fits c → Row t (after_on t g c) g
   unfolding new_send_on new_receive_on new_probe_on
-  row_alone (new_var v) fit = on_row Placed.Refused (λ (G : List ℕ). new_var_of G v) (λ G. own.stays_formed G (Own.new_var v) fit)
-  row_alone new_clock fit = on_row Placed.Refused new_clock_of (λ G. own.stays_formed G Own.new_clock fit)
+  row_alone (new_var v) fit = on_row Err (λ (G : List ℕ). new_var_of G v) (λ G. own.stays_formed G (Own.new_var v) fit)
+  row_alone new_clock fit = on_row Err new_clock_of (λ G. own.stays_formed G Own.new_clock fit)
   row_alone new_action fit =
       telling_row g Plain (placed_on new_action_of t g) t (checked_word new_action_of action_puts t g)
-      (on_row Placed.Refused new_action_of (λ G. own.stays_formed G Own.new_action fit))
-  row_alone (new_process l) fit = on_row Done.Refused (λ (G : List ℕ). new_process_of G l) (λ G. own.stays_formed G (Own.new_process l) fit)
+      (on_row Err new_action_of (λ G. own.stays_formed G Own.new_action fit))
+  row_alone (new_process l) fit = on_row Err (λ (G : List ℕ). new_process_of G l) (λ G. own.stays_formed G (Own.new_process l) fit)
   row_alone (add_reset a clock) fit =
-      on_row Done.Refused (λ (G : List ℕ). add_reset_of G a clock) (λ G. own.stays_formed G (Own.add_reset a clock) fit)
+      on_row Err (λ (G : List ℕ). add_reset_of G a clock) (λ G. own.stays_formed G (Own.add_reset a clock) fit)
   row_alone (add_effect a v ws) fit =
-      on_row Done.Refused (λ (G : List ℕ). add_effect_of G a v ws) (λ G. own.stays_formed G (Own.add_effect a v ws) fit)
+      on_row Err (λ (G : List ℕ). add_effect_of G a v ws) (λ G. own.stays_formed G (Own.add_effect a v ws) fit)
   row_alone (new_timed_location l) fit =
-      on_row Placed.Refused (λ (G : List ℕ). new_timed_location_of G l) (λ G. own.stays_formed G (Own.new_timed_location l) fit)
+      on_row Err (λ (G : List ℕ). new_timed_location_of G l) (λ G. own.stays_formed G (Own.new_timed_location l) fit)
   row_alone (new_initial_location l) fit =
-      on_row Placed.Refused (λ (G : List ℕ). new_initial_of G l) (λ G. own.stays_formed G (Own.new_initial_location l) fit)
+      on_row Err (λ (G : List ℕ). new_initial_of G l) (λ G. own.stays_formed G (Own.new_initial_location l) fit)
   row_alone (add_transition pre a post guarded ws l) fit =
-      on_row Done.Refused (λ (G : List ℕ). add_transition_of G pre a post guarded ws l)
+      on_row Err (λ (G : List ℕ). add_transition_of G pre a post guarded ws l)
       (λ G. own.stays_formed G (Own.add_transition pre a post guarded ws l) fit)
   row_alone (new_send q m count) fit =
       message_row (send_check_on t g q.0 m count) (On Send q) (λ (G : List ℕ). new_send_of G m count) (send_puts m count)

@@ -6,7 +6,7 @@ use Rattle.grammar.specs.declared.values.Val.{Val}
 use Rattle.graph_tables.specs.declared.handed.Limits.{Limits}
 use Rattle.graph_tables.specs.declared.handed.Vars.{Vars}
 use Rattle.graph_tables.specs.Sizes.{word32}
-use Rattle.graph_tables.specs.Answers.{done_number, placed_number}
+use Rattle.graph_tables.specs.Answers.{answer_number}
 use Rattle.system_tables.specs.declared.ids.Channel.{Channel}
 use Rattle.graph_builder.specs.Chains as Own
 use Rattle.system_tables.specs.declared.ids.ChannelCapacity.{ChannelCapacity}
@@ -96,22 +96,22 @@ CallFits (call_on_graph g c) = Fits c
 
 -- the number of its answer: 0 for ok, else the refusal's
 abbrev pub answer_on : List ℕ → ℕ → OnGraph → ℕ
-answer_on t g (new_var v) = placed_number (new_var_on t g v).answer
-answer_on t g new_clock = placed_number (new_clock_on t g).answer
-answer_on t g new_action = placed_number (new_action_on t g).answer
-answer_on t g (new_process l) = done_number (new_process_on t g l).answer
-answer_on t g (add_reset a clock) = done_number (add_reset_on t g a clock).answer
-answer_on t g (add_effect a v ws) = done_number (add_effect_on t g a v ws).answer
-answer_on t g (new_timed_location l) = placed_number (new_timed_location_on t g l).answer
-answer_on t g (new_initial_location l) = placed_number (new_initial_on t g l).answer
-answer_on t g (add_transition pre a post guarded ws l) = done_number (add_transition_on t g pre a post guarded ws l).answer
-answer_on t g (new_send q m count) = placed_number (new_send_on t g q m count).answer
-answer_on t g (new_receive q v) = placed_number (new_receive_on t g q v).answer
-answer_on t g (new_probe k q) = placed_number (new_probe_on t g k q).answer
+answer_on t g (new_var v) = answer_number (new_var_on t g v).answer
+answer_on t g new_clock = answer_number (new_clock_on t g).answer
+answer_on t g new_action = answer_number (new_action_on t g).answer
+answer_on t g (new_process l) = answer_number (new_process_on t g l).answer
+answer_on t g (add_reset a clock) = answer_number (add_reset_on t g a clock).answer
+answer_on t g (add_effect a v ws) = answer_number (add_effect_on t g a v ws).answer
+answer_on t g (new_timed_location l) = answer_number (new_timed_location_on t g l).answer
+answer_on t g (new_initial_location l) = answer_number (new_initial_on t g l).answer
+answer_on t g (add_transition pre a post guarded ws l) = answer_number (add_transition_on t g pre a post guarded ws l).answer
+answer_on t g (new_send q m count) = answer_number (new_send_on t g q m count).answer
+answer_on t g (new_receive q v) = answer_number (new_receive_on t g q v).answer
+answer_on t g (new_probe k q) = answer_number (new_probe_on t g k q).answer
 
 abbrev pub answer_of : List ℕ → Call → ℕ
-answer_of t new_graph = placed_number (new_graph_of t).answer
-answer_of t (new_channel k c) = placed_number (new_channel_of t k c).answer
+answer_of t new_graph = answer_number (new_graph_of t).answer
+answer_of t (new_channel k c) = answer_number (new_channel_of t k c).answer
 answer_of t (call_on_graph g c) = answer_on t g c
 
 -- ---- one call after the other

@@ -1,95 +1,84 @@
 // A line that replays a recording.
-use graph_text::writing;
-use replays::answers::{Difference, Replayed};
-use text::{answers, output, tokens};
+ghost use Rattle.std.specs.Prelude.{◌<◌, IfSome};
+
+use graph_text::faults::Fault;
+use graph_text::lines::Line;
+use graph_text::replies::Reply;
+use replays::answers::{Difference, ReplayError};
+use text::{rows, tokens};
 
 // The longest recording that a line holds, in bytes.
 const ROOM: usize = 2000;
 
-// How many bytes a token spells, or that it spells none.
-#[derive(Clone, Copy)]
-enum Spelt {
-    Bytes(usize),
-    Bad,
-}
-
-// The value of a hexadecimal digit, 16 where it is none.
-fn digit(byte: u8) -> u8 {
+// The value of a hexadecimal digit.
+fn digit(byte: u8) -> Option<u8>
+    ensures { IfSome result (λ d. d < 16) }
+{
     match byte {
-        b'0'..=b'9' => byte - b'0',
-        b'a'..=b'f' => byte - b'a' + 10,
-        _ => 16,
+        b'0'..=b'9' => Some(byte - b'0'),
+        b'a'..=b'f' => Some(byte - b'a' + 10),
+        _ => None,
     }
 }
 
-// Two digits for each byte.
-fn read_bytes(token: &[u8], to: &mut [u8]) -> Spelt {
+// How many bytes a token spells, by two digits each.
+fn read_bytes(token: &[u8], to: &mut [u8]) -> Option<usize> {
     let n = token.len() / 2;
     if token.len() != 2 * n {
-        return Spelt::Bad;
+        return None;
     }
     if to.len() < n {
-        return Spelt::Bad;
+        return None;
     }
-    for i in 0..n {
-        let high = digit(token[2 * i]);
-        if 15 < high {
-            return Spelt::Bad;
-        }
-        let low = digit(token[2 * i + 1]);
-        if 15 < low {
-            return Spelt::Bad;
-        }
-        to[i] = high * 16 + low;
+    for (byte, pair) in to.iter_mut().zip(token.chunks_exact(2)) {
+        *byte = digit(pair[0])? * 16 + digit(pair[1])?;
     }
-    Spelt::Bytes(n)
+    Some(n)
 }
 
 // `-` for no bytes.
-fn read_recording(token: &[u8], to: &mut [u8]) -> Spelt {
+fn read_recording(token: &[u8], to: &mut [u8]) -> Option<usize> {
     if tokens::is(token, b"-") {
-        return Spelt::Bytes(0);
+        return Some(0);
     }
-    if token.len() == 0 {
-        return Spelt::Bad;
+    if token.is_empty() {
+        return None;
     }
     read_bytes(token, to)
 }
 
-fn bad_block(out: &mut [u8], b: u64) -> usize {
-    let here = output::put_all(out, 0, b"block ");
-    let last = output::put_number(out, here, b);
-    answers::end(out, last)
+fn bad_block(out: &mut Reply, b: u64) {
+    out.put_all(b"block ");
+    out.put_number(b);
+    out.end();
 }
 
 // Block, record, recorded number, given number.
-fn difference(out: &mut [u8], d: Difference) -> usize {
-    let a = output::put_all(out, 0, b"record ");
-    let b = output::put_number(out, a, d.block);
-    let c = output::put_all(out, b, b" ");
-    let e = output::put_number(out, c, d.entry);
-    let f = writing::put_next_number(out, e, d.recorded);
-    let last = writing::put_next_number(out, f, d.given);
-    answers::end(out, last)
+fn difference(out: &mut Reply, d: Difference) {
+    out.put_all(b"record ");
+    out.put_number(d.block);
+    out.put(b' ');
+    out.put_number(d.entry);
+    out.put_next_number(d.recorded);
+    out.put_next_number(d.given);
+    out.end();
 }
 
-fn replayed(out: &mut [u8], r: Replayed) -> usize {
+fn replayed(out: &mut Reply, r: Result<u64, ReplayError>) -> Result<(), Fault> {
     match r {
-        Replayed::Finished(n) => answers::ok_number(out, n),
-        Replayed::BadBlock(b) => bad_block(out, b),
-        Replayed::Differs(d) => difference(out, d),
-        Replayed::Refused(refusal) => answers::refused(out, refusal.number()),
+        Ok(n) => out.ok_wide(n),
+        Err(ReplayError::BadBlock(b)) => bad_block(out, b),
+        Err(ReplayError::Differs(d)) => difference(out, d),
+        Err(ReplayError::Refused(refusal)) => return Err(Fault::Refused(refusal)),
     }
+    Ok(())
 }
 
-// t replay HEX
-pub fn replay(line: &[u8], at: usize, t: &[u64], s: &mut [u64], out: &mut [u8]) -> usize {
-    if !tokens::ended(line, tokens::next(line, at)) {
-        return answers::bad(out);
-    }
+// HEX
+pub fn replay(mut line: Line, t: &[u64], s: &mut [u64], out: &mut Reply) -> Result<(), Fault> {
     let mut bytes = [0; ROOM];
-    let Spelt::Bytes(n) = read_recording(tokens::token(line, at), &mut bytes) else {
-        return answers::bad(out);
-    };
-    replayed(out, replays::run::replay(t, s, tokens::part(&bytes, n)))
+    let token = line.next();
+    line.end()?;
+    let n = read_recording(token, &mut bytes).ok_or(Fault::Bad)?;
+    replayed(out, replays::run::replay(t, s, rows::part(&bytes, n)))
 }

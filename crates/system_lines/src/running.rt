@@ -1,94 +1,83 @@
 // Lines on the state of a system, whose table is lent beside it.
 use crate::{answers, replaying, showing, stepping};
 use channel_system::{readers, run, transitions};
-use graph_text::answers::done;
-use graph_text::lists;
-use running_lines::answers::{held, listed};
+use graph_text::faults::Fault;
+use graph_text::lines::Line;
+use graph_text::replies::Reply;
+use running_lines::answers::{listed, past_end};
 use system_tables::ids::{Channel, PgId};
-use text::numbers::Small;
-use text::{numbers, tokens};
 
-// Lines of two tokens: t new, t waiting, t time, t show
-fn bare(verb: &[u8], t: &[u64], s: &mut [u64], out: &mut [u8]) -> usize {
-    if tokens::is(verb, b"new") {
-        return done(out, run::new_instance(t, s));
-    }
-    if tokens::is(verb, b"waiting") {
-        return held(out, run::is_waiting(t, s));
-    }
-    if tokens::is(verb, b"time") {
-        return answers::time(out, readers::time(t, s));
-    }
-    if tokens::is(verb, b"show") {
-        return showing::show(t, s, out);
-    }
-    text::answers::bad(out)
-}
-
-// Lines with one number: t wait D, t can D, t list K, t run G
-fn numbered(
-    line: &[u8],
+// Lines that ask for entry K of a part N, and change nothing.
+fn of_part(
     verb: &[u8],
-    at: usize,
+    mut line: Line,
     t: &[u64],
-    s: &mut [u64],
-    out: &mut [u8],
-) -> usize {
-    let Small::Is(n) = lists::read_last_number(line, at) else {
-        return text::answers::bad(out);
-    };
-    if tokens::is(verb, b"wait") {
-        return answers::waited(out, run::wait(t, s, n));
+    s: &[u64],
+    out: &mut Reply,
+) -> Result<(), Fault> {
+    let n = line.number()?;
+    let k = line.last_number()? as usize;
+    match verb {
+        b"pg" => listed(out, transitions::possible_transitions_pg(t, s, PgId(n), k)?),
+        b"solo" => listed(
+            out,
+            transitions::nosync_possible_transitions_pg(t, s, PgId(n), k)?,
+        ),
+        b"queue" => match readers::queue_value(t, s, Channel(n), k)? {
+            Some(value) => out.ok_value(value),
+            None => past_end(out),
+        },
+        _ => return Err(Fault::Bad),
     }
-    if tokens::is(verb, b"can") {
-        return held(out, run::can_wait(t, s, n));
-    }
-    if tokens::is(verb, b"list") {
-        return answers::listed(out, transitions::possible_transitions(t, s, n as usize));
-    }
-    if tokens::is(verb, b"run") {
-        return answers::graph_run(out, readers::program_graph(t, s, PgId(n)));
-    }
-    text::answers::bad(out)
+    Ok(())
 }
 
-// Lines with two: t pg G K, t solo G K, t queue Q K
-fn of_part(line: &[u8], verb: &[u8], at: usize, t: &[u64], s: &[u64], out: &mut [u8]) -> usize {
-    let Small::Is(n) = numbers::read_small(tokens::token(line, at)) else {
-        return text::answers::bad(out);
-    };
-    let Small::Is(k) = lists::read_last_number(line, tokens::next(line, at)) else {
-        return text::answers::bad(out);
-    };
-    if tokens::is(verb, b"pg") {
-        let l = transitions::possible_transitions_pg(t, s, PgId(n), k as usize);
-        return listed(out, l);
+// Lines that ask for the state, and change nothing.
+fn asked(verb: &[u8], line: Line, t: &[u64], s: &[u64], out: &mut Reply) -> Result<(), Fault> {
+    match verb {
+        b"waiting" => {
+            line.end()?;
+            out.yes_or_no(run::is_waiting(t, s)?);
+        }
+        b"time" => {
+            line.end()?;
+            out.ok_number(readers::time(t, s)?);
+        }
+        b"show" => {
+            line.end()?;
+            showing::show(t, s, out)?;
+        }
+        b"can" => out.yes_or_no(run::can_wait(t, s, line.last_number()?)?),
+        b"list" => {
+            let k = line.last_number()?;
+            answers::listed(out, transitions::possible_transitions(t, s, k as usize)?);
+        }
+        b"run" => {
+            let run = readers::program_graph(t, s, PgId(line.last_number()?))?;
+            answers::shown(out, &run);
+        }
+        _ => return of_part(verb, line, t, s, out),
     }
-    if tokens::is(verb, b"solo") {
-        let l = transitions::nosync_possible_transitions_pg(t, s, PgId(n), k as usize);
-        return listed(out, l);
+    Ok(())
+}
+
+fn answered(mut line: Line, t: &[u64], s: &mut [u64], out: &mut Reply) -> Result<(), Fault> {
+    match line.next() {
+        b"new" => {
+            line.end()?;
+            run::new_instance(t, s)?;
+            out.ok();
+            Ok(())
+        }
+        b"wait" => answers::waited(out, run::wait(t, s, line.last_number()?)),
+        b"step" => stepping::step(line, t, s, out),
+        b"replay" => replaying::replay(line, t, s, out),
+        verb => asked(verb, line, t, s, out),
     }
-    if tokens::is(verb, b"queue") {
-        return answers::queued(out, readers::queue_value(t, s, Channel(n), k as usize));
-    }
-    text::answers::bad(out)
 }
 
 // Every line behind `t`.
-pub fn answer(line: &[u8], at: usize, t: &[u64], s: &mut [u64], out: &mut [u8]) -> usize {
-    let verb = tokens::token(line, at);
-    let second = tokens::next(line, at);
-    if tokens::ended(line, second) {
-        return bare(verb, t, s, out);
-    }
-    if tokens::is(verb, b"step") {
-        return stepping::step(line, second, t, s, out);
-    }
-    if tokens::is(verb, b"replay") {
-        return replaying::replay(line, second, t, s, out);
-    }
-    if tokens::ended(line, tokens::next(line, second)) {
-        return numbered(line, verb, second, t, s, out);
-    }
-    of_part(line, verb, second, t, s, out)
+pub fn answer(line: Line, t: &[u64], s: &mut [u64], out: &mut Reply) {
+    let told = answered(line, t, s, out);
+    out.tell(told);
 }

@@ -8,7 +8,7 @@ ghost use Rattle.system_tables.specs.Sizes.{graph_room, channel_room};
 ghost use Rattle.system_tables.specs.Words.{SystemWords, graph_part};
 ghost use Rattle.system_tables.specs.Formed.{system_counted, graph_formed, members_formed, system_formed};
 ghost use Rattle.system_tables.specs.Formed.{channel_kind_formed, capacity_formed, channel_formed};
-ghost use Rattle.system_tables.specs.Formed.{value_fits, message_fits, is_probe, probe_formed, send_fits, receive_fits, message_formed};
+ghost use Rattle.system_tables.specs.Formed.{value_fits, message_fits, is_probe, probe_formed, message_formed};
 ghost use Rattle.system_tables.specs.Formed.{communication_fits, communication_formed, communications_formed};
 ghost use Rattle.system_tables.specs.Sound.{ChannelsFormed, ChannelKnown, ActionKnown, ValueKnown};
 
@@ -34,35 +34,11 @@ fn graph_formed(t: &[u64], building: bool, g: usize) -> bool
     formed::well_formed(words::graph_at(t, g), building)
 }
 
-fn all_graphs_formed(t: &[u64], building: bool, n: usize) -> bool
-    requires { SystemWords t.now × (n ≤ graph_room) }
-    ensures { result ≡ all_below n (graph_formed t.now building) }
-{
-    for g in 0..n {
-        if !graph_formed(t, building, g) {
-            return false;
-        }
-    }
-    true
-}
-
 fn channel_kind_formed(t: &[u64], q: usize, e: usize) -> bool
     requires { SystemWords t.now × (q < channel_room) × (e < message_room) }
     ensures { result ≡ channel_kind_formed t.now q e }
 {
     words::channel_kind(t, q, e) < graph_tables::layout::NO_KIND
-}
-
-fn all_kinds_formed(t: &[u64], q: usize, n: usize) -> bool
-    requires { SystemWords t.now × (q < channel_room) × (n ≤ message_room) }
-    ensures { result ≡ all_below n (channel_kind_formed t.now q) }
-{
-    for e in 0..n {
-        if !channel_kind_formed(t, q, e) {
-            return false;
-        }
-    }
-    true
 }
 
 fn capacity_formed(t: &[u64], q: usize) -> bool
@@ -84,7 +60,7 @@ fn channel_formed(t: &[u64], q: usize) -> bool
     if graph_tables::sizes::MESSAGE < w {
         return false;
     }
-    if !all_kinds_formed(t, q, w) {
+    if !(0..w).all(|e| channel_kind_formed(t, q, e)) {
         return false;
     }
     if !capacity_formed(t, q) {
@@ -93,36 +69,12 @@ fn channel_formed(t: &[u64], q: usize) -> bool
     ceiling::has_room(w, words::capacity_of(t, q))
 }
 
-fn all_channels_formed(t: &[u64], n: usize) -> bool
-    requires { SystemWords t.now × (n ≤ channel_room) }
-    ensures { result ≡ all_below n (channel_formed t.now) }
-{
-    for q in 0..n {
-        if !channel_formed(t, q) {
-            return false;
-        }
-    }
-    true
-}
-
 // Whether value e of a message is of the kind that the channel has there.
 fn value_fits(t: &[u64], q: usize, graph: &[u64], a: usize, e: usize) -> bool
     requires { ValueKnown t.now q graph.now a e }
     ensures { result ≡ value_fits t.now q graph.now a e }
 {
     messages::value_kind(graph, a, e) == words::channel_kind(t, q, e)
-}
-
-fn all_values_fit(t: &[u64], q: usize, graph: &[u64], a: usize, n: usize) -> bool
-    requires { (n ≤ message_room) × ((e : ℕ) → e < n → ValueKnown t.now q graph.now a e) }
-    ensures { result ≡ all_below n (value_fits t.now q graph.now a) }
-{
-    for e in 0..n {
-        if !value_fits(t, q, graph, a, e) {
-            return false;
-        }
-    }
-    true
 }
 
 // Whether the message of an action is one of the channel.
@@ -134,16 +86,13 @@ fn message_fits(t: &[u64], q: usize, graph: &[u64], a: usize) -> bool
     if messages::message_count(graph, a) != w {
         return false;
     }
-    all_values_fit(t, q, graph, a, w)
+    (0..w).all(|e| value_fits(t, q, graph, a, e))
 }
 
 fn is_probe(k: u64) -> bool
     ensures { result ≡ is_probe k }
 {
-    if k == layout::EMPTY {
-        return true;
-    }
-    k == layout::FULL
+    k == layout::EMPTY || k == layout::FULL
 }
 
 fn probe_formed(k: u64, graph: &[u64], a: usize) -> bool
@@ -159,36 +108,16 @@ fn probe_formed(k: u64, graph: &[u64], a: usize) -> bool
     messages::message_count(graph, a) == 0
 }
 
-fn send_fits(t: &[u64], q: usize, graph: &[u64], a: usize) -> bool
-    requires { ChannelKnown t.now q × ActionKnown graph.now a }
-    ensures { result ≡ send_fits t.now q graph.now a }
-{
-    if !messages::is_send(graph, a) {
-        return false;
-    }
-    message_fits(t, q, graph, a)
-}
-
-fn receive_fits(t: &[u64], q: usize, graph: &[u64], a: usize) -> bool
-    requires { ChannelKnown t.now q × ActionKnown graph.now a }
-    ensures { result ≡ receive_fits t.now q graph.now a }
-{
-    if !messages::is_receive(graph, a) {
-        return false;
-    }
-    message_fits(t, q, graph, a)
-}
-
 // Whether an action is of this kind, on this channel.
 fn message_formed(t: &[u64], k: u64, q: usize, graph: &[u64], a: usize) -> bool
     requires { ChannelKnown t.now q × ActionKnown graph.now a }
     ensures { result ≡ message_formed t.now k q graph.now a }
 {
     if k == layout::SEND {
-        return send_fits(t, q, graph, a);
+        return messages::is_send(graph, a) && message_fits(t, q, graph, a);
     }
     if k == layout::RECEIVE {
-        return receive_fits(t, q, graph, a);
+        return messages::is_receive(graph, a) && message_fits(t, q, graph, a);
     }
     probe_formed(k, graph, a)
 }
@@ -216,35 +145,12 @@ fn communication_formed(t: &[u64], g: usize, a: usize) -> bool
     communication_fits(t, w, words::graph_at(t, g), a)
 }
 
-fn all_communications_formed(t: &[u64], g: usize, n: usize) -> bool
-    requires { ChannelsFormed t.now × (g < graph_room) × (n ≤ action_room) × ((a : ℕ) → a < n → ActionKnown (graph_part t.now g) a) }
-    ensures { result ≡ all_below n (communication_formed t.now g) }
-{
-    for a in 0..n {
-        if !communication_formed(t, g, a) {
-            return false;
-        }
-    }
-    true
-}
-
 fn communications_formed(t: &[u64], g: usize) -> bool
     requires { ChannelsFormed t.now × (g < graph_room) × Sound (graph_part t.now g) }
     ensures { result ≡ communications_formed t.now g }
 {
-    all_communications_formed(t, g, inner::action_count(words::graph_at(t, g)))
-}
-
-fn all_members_formed(t: &[u64], n: usize) -> bool
-    requires { ChannelsFormed t.now × (n ≤ graph_room) × ((g : ℕ) → g < n → Sound (graph_part t.now g)) }
-    ensures { result ≡ all_below n (communications_formed t.now) }
-{
-    for g in 0..n {
-        if !communications_formed(t, g) {
-            return false;
-        }
-    }
-    true
+    let n = inner::action_count(words::graph_at(t, g));
+    (0..n).all(|a| communication_formed(t, g, a))
 }
 
 fn members_formed(t: &[u64], building: bool) -> bool
@@ -252,13 +158,13 @@ fn members_formed(t: &[u64], building: bool) -> bool
     ensures { result ≡ members_formed t.now building }
 {
     let n = words::graph_count(t);
-    if !all_graphs_formed(t, building, n) {
+    if !(0..n).all(|g| graph_formed(t, building, g)) {
         return false;
     }
-    if !all_channels_formed(t, words::channel_count(t)) {
+    if !(0..words::channel_count(t)).all(|q| channel_formed(t, q)) {
         return false;
     }
-    all_members_formed(t, n)
+    (0..n).all(|g| communications_formed(t, g))
 }
 
 // Whether a system's table is well formed; while it is being built its graphs may lack a process.

@@ -35,7 +35,8 @@ pub enum ChannelCapacity {
     Sink,
 }
 
-// What an action is to the system: a plain one, or a message on a channel.
+// What an action is to the system: a plain one, or a message on a channel. As Option<(Message, Channel)> it was tried: two steps of
+// `message_says` (proofs/CommunicationLaws.antt) didn't close, since `cc` doesn't read the parts of a pair.
 #[derive(Clone, Copy)]
 pub enum Communication {
     Plain,

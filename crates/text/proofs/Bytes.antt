@@ -1,39 +1,54 @@
 -- Laws of tokens, from a place of the line on.
-use Prim.Native.Nat.{ℕ, suc, ◌+◌, ◌≤◌, ◌<◌}
-use mathlib.Core.Path.{◌≡◌, refl, ap}
-use mathlib.Core.Bool.{Bool, true, false, cond, ◌&&◌}
-use mathlib.Core.List.{List, [], ◌∷◌}
-use native.Mathlib.Omega.{arith}
-use lib.Dec.{eqb}
-use lib.ListN.{length, get_or, take, drop, length-drop}
-use borrow.Author.Tests.{eq-eqb, ne_eqb}
-use Rattle.laws.proofs.Lists.{next, done}
-use Rattle.text.specs.Tokens.{token_of, same_bytes}
+use Rattle.std.proofs.Common.{◌≡◌, ℕ, suc, ◌+◌, ◌≤◌, ◌<◌, Bool, true, false, cond, not, ◌&&◌, List, [], ◌∷◌, eqb, ltb, length, take, drop, refl, sym, ◌∙◌, ap, arith, length-drop}
+use Rattle.std.specs.Prelude.{Some, None, unwrap_or}
+use Rattle.std.specs.List.{position, position_or_len, list_all, zip}
+use Rattle.std.proofs.lemmas.List.Sums.{prefix_len-le-length}
+use Rattle.std.proofs.lemmas.Option.{cond_some}
+use borrow.Author.Tests.{ltb-true, ltb-false, lt-ltb, le-ltb}
+use Rattle.text.specs.Tokens.{token_of, next_of, same_bytes}
 
--- ---- a token
-pub blank : (s : List ℕ) (i : ℕ) → i < length s → get_or s i 0 ≡ 32 → token_of (drop i s) ≡ []
+-- ---- a token ends at the first blank
+ends : (s : List ℕ) → length (token_of s) ≡ position_or_len (λ b. eqb b 32) s
 unfolding token_of
-blank s i h e = rw (next 0 s i h, eq-eqb (get_or s i 0) 32 e)
-
-pub letter : (s : List ℕ) (i : ℕ) → i < length s → (get_or s i 0 ≡ 32 → ⊥) → length (token_of (drop i s)) ≡ suc (length (token_of (drop (i + 1) s)))
-unfolding token_of
-letter s i h n = rw (next 0 s i h, ne_eqb (get_or s i 0) 32 n)
-
-pub past : (s : List ℕ) (i : ℕ) → length s ≤ i → token_of (drop i s) ≡ []
-unfolding token_of
-past s i h = rw (done s i h)
-
-bounded : (s : List ℕ) → length (token_of s) ≤ length s
-unfolding token_of
-bounded [] = omega arith
-bounded (b ∷ s) = by (eqb b 32) (bounded s)
+ends [] = refl
+ends (b ∷ s) = by (eqb b 32) (ends s)
   where
-    by : (t : Bool) → length (token_of s) ≤ length s → length (cond t [] (b ∷ token_of s)) ≤ suc (length s)
-    by true h = omega arith
+    by : (t : Bool) → length (token_of s) ≡ position_or_len (λ b. eqb b 32) s
+        → length (cond t [] (b ∷ token_of s)) ≡ cond (not t) (1 + position_or_len (λ b. eqb b 32) s) 0
+    by true h = refl
     by false h = omega arith
 
-pub within : (s : List ℕ) (i : ℕ) → i ≤ length s → i + length (token_of (drop i s)) ≤ length s
-within s i h = omega (arith, bounded (drop i s), length-drop i s)
+pub bounded : (s : List ℕ) → length (token_of s) ≤ length s
+bounded s = rw (ends s) (prefix_len-le-length (λ b. not (eqb b 32)) s)
+
+pub spans : (s : List ℕ) → unwrap_or (position (λ b. eqb b 32) s) (length s) ≡ length (token_of s)
+spans s = by (ltb (position_or_len (λ b. eqb b 32) s) (length s)) refl
+  where
+    by : (t : Bool) → ltb (position_or_len (λ b. eqb b 32) s) (length s) ≡ t
+        → unwrap_or (cond t (Some (position_or_len (λ b. eqb b 32) s)) None) (length s) ≡ length (token_of s)
+    by true e = sym (ends s)
+    by false e = omega (arith, ltb-false (position_or_len (λ b. eqb b 32) s) (length s) e, bounded s, ends s)
+
+-- where the token after the one at a place starts
+module _ (s : List ℕ) (i : ℕ) where
+  pub after : (n : ℕ) → position (λ b. eqb b 32) (drop i s) ≡ Some n → i + n + 1 ≡ next_of s i
+  unfolding next_of
+  after n e =
+      let c = cond_some (ltb (position_or_len (λ b. eqb b 32) (drop i s)) (length (drop i s))) (position_or_len (λ b. eqb b 32) (drop i s)) n e in
+      let t : length (token_of (drop i s)) ≡ n = ends (drop i s) ∙ c.1 in
+      let h : position_or_len (λ b. eqb b 32) (drop i s) < length (drop i s) = ltb-true _ _ c.0 in
+      rw (t, lt-ltb (i + n) (length s) (omega (arith, h, c.1, length-drop i s)))
+
+  pub none_after : position (λ b. eqb b 32) (drop i s) ≡ None → length s + 1 ≡ next_of s i
+  unfolding next_of
+  none_after = by (ltb (position_or_len (λ b. eqb b 32) (drop i s)) (length (drop i s))) refl
+    where
+      by : (t : Bool) → ltb (position_or_len (λ b. eqb b 32) (drop i s)) (length (drop i s)) ≡ t
+          → cond t (Some (position_or_len (λ b. eqb b 32) (drop i s))) None ≡ None
+          → length s + 1 ≡ cond (ltb (i + length (token_of (drop i s))) (length s)) (i + length (token_of (drop i s)) + 1) (length s + 1)
+      by true e f = absurd (cc f)
+      by false e f =
+          rw (le-ltb (i + length (token_of (drop i s))) (length s) (omega (arith, ltb-false _ _ e, ends (drop i s), length-drop i s)))
 
 pub front : (s : List ℕ) → take (length (token_of s)) s ≡ token_of s
 unfolding token_of
@@ -56,15 +71,9 @@ longer (a ∷ x) (b ∷ y) h = by (eqb a b) (longer x y (λ e. h (ap suc e)))
     by true e = e
     by false e = refl
 
-module _ (x y : List ℕ) (i : ℕ) (hx : i < length x) (hy : i < length y) where
-  pub differ : (get_or x i 0 ≡ get_or y i 0 → ⊥) → same_bytes (drop i x) (drop i y) ≡ false
-  unfolding same_bytes
-  differ n = rw (next 0 x i hx, next 0 y i hy, ne_eqb (get_or x i 0) (get_or y i 0) n)
-
-  pub agree : get_or x i 0 ≡ get_or y i 0 → same_bytes (drop i x) (drop i y) ≡ same_bytes (drop (i + 1) x) (drop (i + 1) y)
-  unfolding same_bytes
-  agree e = rw (next 0 x i hx, next 0 y i hy, eq-eqb (get_or x i 0) (get_or y i 0) e)
-
-pub equal : (x y : List ℕ) (i : ℕ) → length x ≤ i → length y ≤ i → same_bytes (drop i x) (drop i y) ≡ true
+pub paired : (x y : List ℕ) → length x ≡ length y → list_all (λ p. eqb p.0 p.1) (zip x y) ≡ same_bytes x y
 unfolding same_bytes
-equal x y i hx hy = rw (done x i hx, done y i hy)
+paired [] [] h = refl
+paired [] (b ∷ y) h = absurd (omega arith)
+paired (a ∷ x) [] h = absurd (omega arith)
+paired (a ∷ x) (b ∷ y) h = let e : length x ≡ length y = omega arith in rw (paired x y e)

@@ -2,7 +2,6 @@ pub mod Bytes
 pub mod Decimal
 pub mod Places
 pub mod Readings
-pub mod Signs
 pub mod Determined
 pub mod Spelling
 pub mod Theorems

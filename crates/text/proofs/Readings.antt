@@ -7,14 +7,13 @@ use native.Mathlib.Numerals.{add-one}
 use native.Mathlib.Omega.{arith}
 use lib.ListN.{length, drop, set, length-set}
 use lib.Seq.{sets}
-use Rattle.text.specs.declared.numbers.Number.TheVariants.{Is, Bad}
-use Rattle.text.specs.declared.items.Expression.TheVariants.{Is as Expression-as-Is, Bad as Expression-as-Bad}
+use Rattle.std.specs.Prelude.{Some, None}
 use Rattle.text.specs.Tokens.{token_of, next_of}
 use Rattle.text.specs.Items.{word_at, closes_at, words_from, items_from}
 
 -- ---- what the token at a place decides
 module _ (line : List ℕ) (at n : ℕ) where
-  stop_items : (room : ℕ) → closes_at line at ≡ true → items_from room line at n ≡ Expression-as-Is n (next_of line at)
+  stop_items : (room : ℕ) → closes_at line at ≡ true → items_from room line at n ≡ Some (record { count = n; next = next_of line at })
   unfolding items_from
   stop_items zero e = rw e
   stop_items (suc room) e = rw e
@@ -24,21 +23,21 @@ module _ (line : List ℕ) (at n : ℕ) where
   stop_words zero e = refl
   stop_words (suc room) e = rw e
 
-  no_items : (room : ℕ) → closes_at line at ≡ false → word_at (token_of (drop at line)) ≡ Bad → items_from room line at n ≡ Expression-as-Bad
+  no_items : (room : ℕ) → closes_at line at ≡ false → word_at (token_of (drop at line)) ≡ None → items_from room line at n ≡ None
   unfolding items_from
   no_items zero e f = rw e
   no_items (suc room) e f = rw (e, f)
 
-  no_words : (room : ℕ) → closes_at line at ≡ false → word_at (token_of (drop at line)) ≡ Bad → words_from room line at ≡ []
+  no_words : (room : ℕ) → closes_at line at ≡ false → word_at (token_of (drop at line)) ≡ None → words_from room line at ≡ []
   unfolding words_from
   no_words zero e f = refl
   no_words (suc room) e f = rw (e, f)
 
-  more_items : (room w : ℕ) → closes_at line at ≡ false → word_at (token_of (drop at line)) ≡ Is w → items_from (suc room) line at n ≡ items_from room line (next_of line at) (n + 1)
+  more_items : (room w : ℕ) → closes_at line at ≡ false → word_at (token_of (drop at line)) ≡ Some w → items_from (suc room) line at n ≡ items_from room line (next_of line at) (n + 1)
   unfolding items_from
   more_items room w e f = rw (e, f)
 
-  more_words : (room w : ℕ) → closes_at line at ≡ false → word_at (token_of (drop at line)) ≡ Is w → words_from (suc room) line at ≡ w ∷ words_from room line (next_of line at)
+  more_words : (room w : ℕ) → closes_at line at ≡ false → word_at (token_of (drop at line)) ≡ Some w → words_from (suc room) line at ≡ w ∷ words_from room line (next_of line at)
   unfolding words_from
   more_words room w e f = rw (e, f)
 
@@ -59,30 +58,32 @@ module _ (line : List ℕ) (at : ℕ) (before : List ℕ) where
       }
 
   module _ {words : List ℕ} {here count : ℕ} (so_far : Way line at before words here count) where
-    pub closed : closes_at line here ≡ true
-        → (Expression-as-Is count (next_of line here) ≡ items_from (length before) line at 0) × (words ≡ sets before 0 (words_from (length before) line at))
-    closed e = (
-      sym (stop_items line here count (length before - count) e) ∙ so_far.items,
-      ap (sets words count) (sym (stop_words line here count (length before - count) e)) ∙ so_far.stored,
-    )
+    pub closed_items : closes_at line here ≡ true → Some (record { count = count; next = next_of line here }) ≡ items_from (length before) line at 0
+    closed_items e = sym (stop_items line here count (length before - count) e) ∙ so_far.items
 
-    pub broken : closes_at line here ≡ false → word_at (token_of (drop here line)) ≡ Bad
-        → (Expression-as-Bad ≡ items_from (length before) line at 0) × (words ≡ sets before 0 (words_from (length before) line at))
-    broken e f = (
-      sym (no_items line here count (length before - count) e f) ∙ so_far.items,
-      ap (sets words count) (sym (no_words line here count (length before - count) e f)) ∙ so_far.stored,
-    )
+    pub closed_words : closes_at line here ≡ true → words ≡ sets before 0 (words_from (length before) line at)
+    closed_words e = ap (sets words count) (sym (stop_words line here count (length before - count) e)) ∙ so_far.stored
 
-    pub full : length before ≤ count → closes_at line here ≡ false
-        → (Expression-as-Bad ≡ items_from (length before) line at 0) × (words ≡ sets before 0 (words_from (length before) line at))
-    unfolding items_from words_from
-    full h e =
+    pub broken_items : closes_at line here ≡ false → word_at (token_of (drop here line)) ≡ None → None ≡ items_from (length before) line at 0
+    broken_items e f = sym (no_items line here count (length before - count) e f) ∙ so_far.items
+
+    pub broken_words : closes_at line here ≡ false → word_at (token_of (drop here line)) ≡ None → words ≡ sets before 0 (words_from (length before) line at)
+    broken_words e f = ap (sets words count) (sym (no_words line here count (length before - count) e f)) ∙ so_far.stored
+
+    pub full_items : length before ≤ count → closes_at line here ≡ false → None ≡ items_from (length before) line at 0
+    unfolding items_from
+    full_items h e =
         let z : length before - count ≡ 0 = omega arith in
         let i = rw z at so_far.items in
-        let s = rw z at so_far.stored in
-        (rw e at i, s)
+        rw e at i
 
-    pub onward : (w : ℕ) → count < length before → closes_at line here ≡ false → word_at (token_of (drop here line)) ≡ Is w
+    pub full_words : length before ≤ count → words ≡ sets before 0 (words_from (length before) line at)
+    unfolding words_from
+    full_words h =
+        let z : length before - count ≡ 0 = omega arith in
+        rw z at so_far.stored
+
+    pub onward : (w : ℕ) → count < length before → closes_at line here ≡ false → word_at (token_of (drop here line)) ≡ Some w
         → Way line at before (set words count w) (next_of line here) (count + 1)
     onward w h e f =
         let z : length before - count ≡ suc (length before - (count + 1)) = omega arith in

@@ -1,47 +1,21 @@
--- Digits that are stored from the last to the first are those of the answers.
-use Rattle.std.proofs.Common.{◌≡◌, ℕ, zero, suc, ◌+◌, ◌-◌, ◌/◌, ◌%◌, ◌<◌, ◌≤◌, List, [], ◌∷◌, ◌++◌, length, drop, add-one, set, sym, ◌∙◌, arith, length-set}
-use Rattle.std.proofs.lemmas.List.{drop-set, append_assoc, append-nil}
+-- Numbers in decimal are spelled as std spells them.
+use Rattle.std.proofs.Common.{◌≡◌, ℕ, suc, ◌%◌, ◌^◌, ◌<◌, ◌∷◌, ℤ, pos, negsuc, List, sym, ap, arith}
+use Rattle.std.specs.Fmt.{decimal, signed_decimal}
+use Rattle.std.proofs.lemmas.Fmt.{AppendsLastDigit, decimal_from_appends, length-decimal-le}
+use lib.Signed.{mag}
 use borrow.Author.Tests.{lt-ltb, le-ltb}
-use Rattle.laws.proofs.Lists.{done}
-use Rattle.text.specs.Writing.{spelled}
+use Rattle.text.specs.Writing.{spelled, number_text, integer_text}
 
--- what is left of a number is to stand before what stands there
-pub record Written (n at rest : ℕ) (digits : List ℕ) : Type 0 where
-  pub room : length digits ≡ 20
-  pub within : at ≤ 20
-  pub text : spelled at rest ++ drop at digits ≡ spelled 20 n
-
-pub none : (n : ℕ) (digits : List ℕ) → length digits ≡ 20 → Written n 20 n digits
-none n digits h = record { room = h; within = omega arith; text = rw (done digits 20 (omega arith)) (append-nil (spelled 20 n)) }
-
-stored : (k rest : ℕ) (digits : List ℕ) → length digits ≡ 20 → suc k ≤ 20 → drop k (set digits k (48 + rest % 10)) ≡ (48 + rest % 10) ∷ drop (suc k) digits
-stored k rest digits h l =
-    let i : k < length digits = omega arith in
-    rw (drop-set digits k (48 + rest % 10) i, add-one k)
-
-pub first : (n at rest : ℕ) (digits : List ℕ) → Written n at rest digits → 0 < at → rest < 10
-    → drop (at - 1) (set digits (at - 1) (48 + rest % 10)) ≡ spelled 20 n
+appends : AppendsLastDigit spelled
 unfolding spelled
-first n zero rest digits w h l = absurd (omega arith)
-first n (suc k) rest digits w h l =
-    let e : suc k - 1 ≡ k = omega arith in
-    let t = rw (lt-ltb rest 10 l) at w.text in
-    rw e (stored k rest digits w.room w.within ∙ t)
+appends = record {
+  one = λ (k n : ℕ) h. let e : n % 10 ≡ n = omega arith in rw (lt-ltb n 10 h, e);
+  more = λ (k n : ℕ) h. rw (le-ltb n 10 h);
+}
 
-pub more : (n at rest : ℕ) (digits : List ℕ) → Written n at rest digits → 0 < at → 10 ≤ rest
-    → Written n (at - 1) (rest / 10) (set digits (at - 1) (48 + rest % 10))
-unfolding spelled
-more n zero rest digits w h l = absurd (omega arith)
-more n (suc k) rest digits w h l =
-    let e : suc k - 1 ≡ k = omega arith in
-    let t = rw (le-ltb rest 10 l) at w.text in
-    rw e (record {
-      room = length-set digits k (48 + rest % 10) ∙ w.room;
-      within = omega (arith, w.within);
-      text = rw (stored k rest digits w.room w.within) (sym (append_assoc (spelled k (rest / 10)) ((48 + rest % 10) ∷ []) (drop (suc k) digits)) ∙ t);
-    })
+pub number : (n : ℕ) → n < 2 ^ 64 → decimal n ≡ number_text n
+number n h = sym (decimal_from_appends spelled appends 20 n h (length-decimal-le 20 n (omega arith) (omega arith) h))
 
-pub all : (n at rest : ℕ) (digits : List ℕ) → Written n at rest digits → at ≤ 0 → drop at digits ≡ spelled 20 n
-unfolding spelled
-all n zero rest digits w h = w.text
-all n (suc k) rest digits w h = absurd (omega arith)
+pub integer : (z : ℤ) → mag z < 2 ^ 63 → signed_decimal z ≡ integer_text z
+integer (pos n) h = number n (omega arith)
+integer (negsuc n) h = ap (λ (t : List ℕ). 45 ∷ t) (number (suc n) (omega arith))

@@ -1,20 +1,13 @@
 -- The items of an expression.
-use Rattle.std.specs.Prelude.{ℕ, zero, suc, ◌+◌, Bool, true, false, cond, List, [], ◌∷◌, eqb, ltb, length, get_or, drop}
+use Rattle.std.specs.Prelude.{ℕ, zero, suc, ◌+◌, Bool, true, false, cond, List, [], ◌∷◌, eqb, ltb, length, get_or, drop, ℤ, Option, Some, None}
 use Rattle.grammar.specs.declared.values.Val.TheVariants.{Boolean, Integer as Integral}
 use Rattle.grammar.specs.declared.items.Unary.TheVariants.{Not, Negate}
 use Rattle.grammar.specs.declared.items.Binary.TheVariants.{And, Or, Add, Subtract, Multiply, Divide, Remainder, Equal, Less, LessOrEqual}
 use Rattle.grammar.specs.declared.items.Item.TheVariants.{Constant, Variable, Unary, Binary, Draw}
 use Rattle.grammar.specs.Items.{word_of}
-use Rattle.text.specs.declared.numbers.Number.{Number}
-use Rattle.text.specs.declared.numbers.Number.TheVariants.{Is as Number-as-Is, Bad as Number-as-Bad}
-use Rattle.text.specs.declared.numbers.Small.{Small}
-use Rattle.text.specs.declared.numbers.Small.TheVariants.{Is as Small-as-Is, Bad as Small-as-Bad}
-use Rattle.text.specs.declared.numbers.Integer.{Integer}
-use Rattle.text.specs.declared.numbers.Integer.TheVariants.{Is as Integer-as-Is, Bad as Integer-as-Bad}
 use Rattle.text.specs.declared.items.Symbol.{Symbol}
 use Rattle.text.specs.declared.items.Symbol.TheVariants.{Item, Nothing, Bad}
-use Rattle.text.specs.declared.items.Expression.{Expression}
-use Rattle.text.specs.declared.items.Expression.TheVariants.{Is as Expression-as-Is, Bad as Expression-as-Bad}
+use Rattle.text.specs.declared.tokens.Read.{Read}
 use Rattle.text.specs.Tokens.{token_of, next_of, same_bytes}
 use Rattle.text.specs.Numbers.{small_of, integer_of}
 
@@ -37,13 +30,13 @@ letter_of b =
     (cond (eqb b 63) (Item Draw)
     (cond (eqb b 120) Nothing Bad))))))))))))))
 
-abbrev pub constant_of : Integer → Symbol
-constant_of (Integer-as-Is i) = Item (Constant (Integral i))
-constant_of Integer-as-Bad = Bad
+abbrev pub constant_of : Option ℤ → Symbol
+constant_of (Some i) = Item (Constant (Integral i))
+constant_of None = Bad
 
-abbrev pub variable_of : Small → Symbol
-variable_of (Small-as-Is v) = Item (Variable v)
-variable_of Small-as-Bad = Bad
+abbrev pub variable_of : Option ℕ → Symbol
+variable_of (Some v) = Item (Variable v)
+variable_of None = Bad
 
 -- a longer token: `#` an integer, `v` a variable, or `<=`
 unfoldable pub long_of : ℕ → List ℕ → Symbol
@@ -56,12 +49,12 @@ unfoldable pub symbol_of : List ℕ → Symbol
 symbol_of token = cond (ltb (length token) 2) (letter_of (get_or token 0 0)) (long_of (get_or token 0 0) (drop 1 token))
 
 -- the word of a symbol; the word 0 is no item's
-unfoldable pub symbol_word : Symbol → Number
-symbol_word (Item i) = Number-as-Is (word_of i)
-symbol_word Nothing = Number-as-Is 0
-symbol_word Bad = Number-as-Bad
+unfoldable pub symbol_word : Symbol → Option ℕ
+symbol_word (Item i) = Some (word_of i)
+symbol_word Nothing = Some 0
+symbol_word Bad = None
 
-abbrev pub word_at : List ℕ → Number
+abbrev pub word_at : List ℕ → Option ℕ
 word_at token = symbol_word (symbol_of token)
 
 -- a brace closes at a place
@@ -69,13 +62,13 @@ abbrev pub closes_at : List ℕ → ℕ → Bool
 closes_at line at = same_bytes (token_of (drop at line)) (125 ∷ [])
 
 -- what follows a word; nothing does where there is none
-abbrev pub word_then : Number → List ℕ → List ℕ
-word_then (Number-as-Is w) rest = w ∷ rest
-word_then Number-as-Bad rest = []
+abbrev pub word_then : Option ℕ → List ℕ → List ℕ
+word_then (Some w) rest = w ∷ rest
+word_then None rest = []
 
-abbrev pub item_then : Number → Expression → Expression
-item_then (Number-as-Is w) rest = rest
-item_then Number-as-Bad rest = Expression-as-Bad
+abbrev pub item_then : Option ℕ → Option Read → Option Read
+item_then (Some w) rest = rest
+item_then None rest = None
 
 -- the words from a place on: up to the brace that closes, a token that is no item, or the last for which there is room
 unfoldable pub words_from : ℕ → List ℕ → ℕ → List ℕ
@@ -84,10 +77,10 @@ words_from (suc room) line at =
     cond (closes_at line at) [] (word_then (word_at (token_of (drop at line))) (words_from room line (next_of line at)))
 
 -- how many words there are up to the brace that closes, with the n before them, and where the token after it starts
-unfoldable pub items_from : ℕ → List ℕ → ℕ → ℕ → Expression
-items_from zero line at n = cond (closes_at line at) (Expression-as-Is n (next_of line at)) Expression-as-Bad
+unfoldable pub items_from : ℕ → List ℕ → ℕ → ℕ → Option Read
+items_from zero line at n = cond (closes_at line at) (Some (record { count = n; next = next_of line at })) None
 items_from (suc room) line at n =
-    cond (closes_at line at) (Expression-as-Is n (next_of line at))
+    cond (closes_at line at) (Some (record { count = n; next = next_of line at }))
     (item_then (word_at (token_of (drop at line))) (items_from room line (next_of line at) (n + 1)))
 
 -- a brace opens an expression, and its items follow
@@ -97,5 +90,5 @@ opens_at line at = same_bytes (token_of (drop at line)) (123 ∷ [])
 abbrev pub expression_words : ℕ → List ℕ → ℕ → List ℕ
 expression_words room line at = cond (opens_at line at) (words_from room line (next_of line at)) []
 
-abbrev pub expression_at : ℕ → List ℕ → ℕ → Expression
-expression_at room line at = cond (opens_at line at) (items_from room line (next_of line at) 0) Expression-as-Bad
+abbrev pub expression_at : ℕ → List ℕ → ℕ → Option Read
+expression_at room line at = cond (opens_at line at) (items_from room line (next_of line at) 0) None

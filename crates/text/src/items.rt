@@ -1,14 +1,14 @@
 // The items of an expression.
-ghost use Rattle.std.specs.Prelude.{◌≡◌, length, take};
+ghost use Rattle.std.specs.Prelude.{◌≡◌, length};
 ghost use Rattle.text.specs.Items.{letter_of, constant_of, variable_of, long_of, symbol_of, word_at, closes_at, words_from, items_from, expression_words, expression_at};
 ghost use Rattle.std.proofs.lemmas.List.Edits.{sets};
 
-use crate::numbers::{Integer, Number, Small};
+use crate::tokens::Read;
 use crate::{numbers, tokens};
 use grammar::items::{Binary, Item, Unary};
 use grammar::values::Val;
 
-// What a token stands for: an item, or `x`, an item that is none.
+// What a token stands for: an item, or `x`, an item that is none. (Of three kinds: an Option in an Option is no plainer.)
 #[derive(Clone, Copy)]
 pub enum Symbol {
     Item(Item),
@@ -41,21 +41,21 @@ fn letter(byte: u8) -> Symbol
     }
 }
 
-fn constant(n: Integer) -> Symbol
+fn constant(n: Option<i32>) -> Symbol
     ensures { result ≡ constant_of n }
 {
     match n {
-        Integer::Is(i) => Symbol::Item(Item::Constant(Val::Integer(i))),
-        Integer::Bad => Symbol::Bad,
+        Some(i) => Symbol::Item(Item::Constant(Val::Integer(i))),
+        None => Symbol::Bad,
     }
 }
 
-fn variable(n: Small) -> Symbol
+fn variable(n: Option<u32>) -> Symbol
     ensures { result ≡ variable_of n }
 {
     match n {
-        Small::Is(v) => Symbol::Item(Item::Variable(v)),
-        Small::Bad => Symbol::Bad,
+        Some(v) => Symbol::Item(Item::Variable(v)),
+        None => Symbol::Bad,
     }
 }
 
@@ -92,21 +92,14 @@ pub fn read_symbol(token: &[u8]) -> Symbol
 
 // The word of a token's item; 0 is the word of none.
 #[tactic(auto, unfolding(crate::specs::Items::symbol_word))]
-pub fn read_word(token: &[u8]) -> Number
+pub fn read_word(token: &[u8]) -> Option<u64>
     ensures { result ≡ word_at token.now }
 {
     match read_symbol(token) {
-        Symbol::Item(i) => Number::Is(i.word()),
-        Symbol::Nothing => Number::Is(0),
-        Symbol::Bad => Number::Bad,
+        Symbol::Item(i) => Some(i.word()),
+        Symbol::Nothing => Some(0),
+        Symbol::Bad => None,
     }
-}
-
-// The words that were read, and where the token after them starts.
-#[derive(Clone, Copy)]
-pub enum Expression {
-    Is { count: usize, next: usize },
-    Bad,
 }
 
 // Whether the token at a place ends an expression.
@@ -116,51 +109,39 @@ fn closes(line: &[u8], at: usize) -> bool
     tokens::is(tokens::token(line, at), b"}")
 }
 
-// The items from a place on, up to the brace that closes.
-fn read_items(line: &[u8], at: usize, words: &mut [u64]) -> Expression
+// The items from a place on, up to the brace that closes. (How many there are is answered, so the loop counts them.)
+#[tactic(auto, using(crate::proofs::Readings::start, crate::proofs::Readings::closed_items, crate::proofs::Readings::closed_words, crate::proofs::Readings::broken_items, crate::proofs::Readings::broken_words, crate::proofs::Readings::full_items, crate::proofs::Readings::full_words))]
+fn read_items(line: &[u8], at: usize, words: &mut [u64]) -> Option<Read>
     ensures value { result ≡ items_from (length words.old) line.now at 0 }
     ensures words_after { words.new ≡ sets words.old 0 (words_from (length words.old) line.now at) }
 {
     let mut here = at;
     for count in 0..words.len() {
         if closes(line, here) {
-            return Expression::Is {
+            return Some(Read {
                 count,
                 next: tokens::next(line, here),
-            };
+            });
         }
-        let Number::Is(w) = read_word(tokens::token(line, here)) else {
-            return Expression::Bad;
-        };
-        words[count] = w;
+        words[count] = read_word(tokens::token(line, here))?;
         here = tokens::next(line, here);
     }
     if !closes(line, here) {
-        return Expression::Bad;
+        return None;
     }
-    Expression::Is {
+    Some(Read {
         count: words.len(),
         next: tokens::next(line, here),
-    }
+    })
 }
 
 // The expression `{ items }` that starts at a place, its words in the lent ones: it has as many items at most.
-pub fn read_expression(line: &[u8], at: usize, words: &mut [u64]) -> Expression
+pub fn read_expression(line: &[u8], at: usize, words: &mut [u64]) -> Option<Read>
     ensures value { result ≡ expression_at (length words.old) line.now at }
     ensures words_after { words.new ≡ sets words.old 0 (expression_words (length words.old) line.now at) }
 {
     if !tokens::is(tokens::token(line, at), b"{") {
-        return Expression::Bad;
+        return None;
     }
     read_items(line, tokens::next(line, at), words)
-}
-
-// The first words, as many as there are of them.
-pub fn part(words: &[u64], n: usize) -> &[u64]
-    ensures { result.now ≡ take n words.now }
-{
-    if words.len() < n {
-        return words;
-    }
-    &words[0..n]
 }

@@ -1,5 +1,8 @@
-// Standard input, line by line. It comes in pieces, and a line may lie in several of them.
-use crate::{output, tokens};
+// Standard input, line by line. It comes in pieces, and a line may lie in several of them. (std's own reader of lines puts
+// them on the heap.)
+ghost use Rattle.std.specs.Prelude.{◌+◌, ◌<◌, ◌≤◌, length};
+
+use crate::output;
 use std::io;
 use std::io::Read;
 
@@ -12,103 +15,62 @@ pub const ROOM: usize = 4097;
 // What a piece is read into.
 pub const PIECE: usize = 4096;
 
-// How long the line is so far, and whether it is whole. The bytes of the piece from `at` to `count` are not yet taken.
+// A piece, of whose first `count` bytes those from `at` on are not yet taken.
 #[derive(Clone, Copy)]
 pub struct Reader {
-    pub length: usize,
-    pub whole: bool,
-    pub at: usize,
-    pub count: usize,
+    piece: [u8; PIECE],
+    at: usize,
+    count: usize,
 }
 
-pub fn start() -> Reader {
-    Reader {
-        length: 0,
-        whole: false,
-        at: 0,
-        count: 0,
-    }
-}
-
-// Puts the bytes of a piece behind the line, up to a line's end.
-fn take(line: &mut [u8], length: usize, piece: &[u8], at: usize) -> Reader {
-    let mut now = length;
-    for k in at..piece.len() {
-        let byte = piece[k];
-        if byte == b'\n' {
-            return Reader {
-                length: now,
-                whole: true,
-                at: k + 1,
-                count: piece.len(),
-            };
-        }
-        now = output::put(line, now, byte);
-    }
-    Reader {
-        length: now,
-        whole: false,
-        at: piece.len(),
-        count: piece.len(),
-    }
-}
-
-// Reads the next piece where the last is used up. At the end of the input it is empty.
-fn refill(from: &mut impl Read, bytes: &mut [u8], reader: Reader) -> io::Result<Reader> {
-    if reader.at < reader.count {
-        return Ok(reader);
-    }
-    let count = from.read(bytes)?;
-    Ok(Reader {
-        length: reader.length,
-        whole: false,
-        at: 0,
-        count,
-    })
-}
-
-// Goes on with a line by one piece. The last line may lack its end.
-fn go_on(
-    from: &mut impl Read,
-    line: &mut [u8],
-    bytes: &mut [u8],
-    reader: Reader,
-) -> io::Result<Reader> {
-    let now = refill(from, bytes, reader)?;
-    let count = now.count;
-    if count == 0 {
-        return Ok(Reader {
-            length: now.length,
-            whole: 0 < now.length,
+impl Reader {
+    pub fn new() -> Reader {
+        Reader {
+            piece: [0; PIECE],
             at: 0,
             count: 0,
-        });
+        }
     }
-    Ok(take(line, now.length, tokens::part(bytes, count), now.at))
-}
 
-// Reads the next line; where there is none it is not whole. Nothing says that the input ends, so the turns are counted, up to
-// a number that no run comes to.
-pub fn read_line(
-    from: &mut impl Read,
-    line: &mut [u8],
-    bytes: &mut [u8],
-    reader: Reader,
-) -> io::Result<Reader> {
-    let mut now = Reader {
-        length: 0,
-        whole: false,
-        at: reader.at,
-        count: reader.count,
-    };
-    for _ in 0..u64::MAX {
-        now = go_on(from, line, bytes, now)?;
-        if now.whole {
-            return Ok(now);
+    // Reads the next piece where the last is used up. At the end of the input it is empty.
+    fn refill(&mut self, from: &mut impl Read) -> io::Result<()> {
+        if self.count <= self.at {
+            self.count = from.read(&mut self.piece)?;
+            self.at = 0;
         }
-        if now.count == 0 {
-            return Ok(now);
-        }
+        Ok(())
     }
-    Ok(now)
+
+    // What is not yet taken.
+    fn rest(&self) -> &[u8]
+        ensures { 0 < length result.now → self.now.at + length result.now ≤ 4096 }
+    {
+        self.piece.get(self.at..self.count).unwrap_or(&[])
+    }
+
+    // Reads the next line, and gives its length; the last line may lack its end. Nothing says that the input ends, so the
+    // turns are counted, up to a number that no run comes to.
+    pub fn read_line(
+        &mut self,
+        from: &mut impl Read,
+        line: &mut [u8],
+    ) -> io::Result<Option<usize>> {
+        let mut length = 0;
+        for _ in 0..u64::MAX {
+            self.refill(from)?;
+            let rest = self.rest();
+            if rest.is_empty() {
+                return Ok(if length == 0 { None } else { Some(length) });
+            }
+            let end = rest.iter().position(|byte| *byte == b'\n');
+            let taken = end.unwrap_or(rest.len());
+            length = output::put_all(line, length, &rest[..taken]);
+            self.at += taken;
+            if end.is_some() {
+                self.at += 1;
+                return Ok(Some(length));
+            }
+        }
+        Ok(None)
+    }
 }

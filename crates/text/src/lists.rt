@@ -1,110 +1,74 @@
 // Lists of tokens of one kind, up to a token that is none of it; and kinds, a token with a letter for each.
-use crate::numbers::{Number, Small};
-use crate::values::Value;
+ghost use Rattle.std.specs.Prelude.{◌≤◌};
+
 use crate::{numbers, tokens, values};
 use grammar::values::{Slot, Val};
 
-// Values, how many there are, and where the token after them starts. The slots past them are false.
+// Items, how many there are, and where the token after them starts. What is past them is what it was made of.
 #[derive(Clone, Copy)]
-pub struct Values {
-    pub slots: [Slot; 16],
+pub struct List<T, const N: usize> {
+    pub items: [T; N],
     pub count: usize,
     pub next: usize,
 }
 
-// The values from a place on, 16 at most.
-pub fn read_values(line: &[u8], at: usize) -> Values {
-    let mut slots = [Slot {
-        value: Val::Boolean(false),
-    }; 16];
-    let mut here = at;
-    for count in 0usize..16 {
-        let Value::Is(v) = values::read_value(tokens::token(line, here)) else {
-            return Values {
-                slots,
-                count,
-                next: here,
-            };
+// The items from a place on, as many as there is room for. (How many there are is answered, so the loop counts them.)
+pub fn read_list<T: Copy, const N: usize, R: Fn(&[u8]) -> Option<T>>(
+    line: &[u8],
+    at: usize,
+    blank: T,
+    read: R,
+) -> List<T, N>
+    requires { R.IsAlwaysCallable read }
+    ensures { result.count ≤ N }
+{
+    let mut items = [blank; N];
+    let mut next = at;
+    for count in 0..N {
+        let Some(item) = read(tokens::token(line, next)) else {
+            return List { items, count, next };
         };
-        slots[count] = Slot { value: v };
-        here = tokens::next(line, here);
+        items[count] = item;
+        next = tokens::next(line, next);
     }
-    Values {
-        slots,
-        count: 16,
-        next: here,
+    List {
+        items,
+        count: N,
+        next,
     }
 }
 
-// The same of numbers.
-#[derive(Clone, Copy)]
-pub struct Numbers {
-    pub numbers: [u32; 8],
-    pub count: usize,
-    pub next: usize,
+fn read_slot(token: &[u8]) -> Option<Slot> {
+    let value = values::read_value(token)?;
+    Some(Slot { value })
+}
+
+// The values from a place on, 16 at most. The slots past them are false.
+pub fn read_values(line: &[u8], at: usize) -> List<Slot, 16> {
+    let blank = Slot {
+        value: Val::Boolean(false),
+    };
+    read_list(line, at, blank, read_slot)
 }
 
 // The numbers from a place on, 8 at most.
-pub fn read_numbers(line: &[u8], at: usize) -> Numbers {
-    let mut numbers = [0u32; 8];
-    let mut here = at;
-    for count in 0usize..8 {
-        let Small::Is(n) = numbers::read_small(tokens::token(line, here)) else {
-            return Numbers {
-                numbers,
-                count,
-                next: here,
-            };
-        };
-        numbers[count] = n;
-        here = tokens::next(line, here);
-    }
-    Numbers {
-        numbers,
-        count: 8,
-        next: here,
-    }
-}
-
-// The first numbers, as many as there are of them.
-pub fn part(numbers: &[u32], n: usize) -> &[u32] {
-    if numbers.len() < n {
-        return numbers;
-    }
-    &numbers[0..n]
-}
-
-// How many kinds there are.
-#[derive(Clone, Copy)]
-pub enum Kinds {
-    Are(usize),
-    Bad,
-}
-
-// The words of a token's letters in the lent ones; whether each is a kind.
-fn read_letters(token: &[u8], words: &mut [u64]) -> bool {
-    if words.len() < token.len() {
-        return false;
-    }
-    for k in 0..token.len() {
-        let Number::Is(w) = values::kind(token[k]) else {
-            return false;
-        };
-        words[k] = w;
-    }
-    true
+pub fn read_numbers(line: &[u8], at: usize) -> List<u32, 8> {
+    read_list(line, at, 0, numbers::read_small)
 }
 
 // The words of a token's kinds in the lent ones: it has as many at most. `-` stands for none.
-pub fn read_kinds(token: &[u8], words: &mut [u64]) -> Kinds {
+pub fn read_kinds(token: &[u8], words: &mut [u64]) -> Option<usize> {
     if tokens::is(token, b"-") {
-        return Kinds::Are(0);
+        return Some(0);
     }
-    if token.len() == 0 {
-        return Kinds::Bad;
+    if token.is_empty() {
+        return None;
     }
-    if !read_letters(token, words) {
-        return Kinds::Bad;
+    if words.len() < token.len() {
+        return None;
     }
-    Kinds::Are(token.len())
+    for (word, &letter) in words.iter_mut().zip(token) {
+        *word = values::kind(letter)?;
+    }
+    Some(token.len())
 }

@@ -1,6 +1,4 @@
 // Lines on a time range. Each answer is what the range's call answered.
-use crate::bounds::Limit;
-use crate::numbers::Small;
 use crate::{answers, bounds, numbers, output, tokens};
 use time::TimeRange;
 
@@ -16,7 +14,7 @@ fn put_range(out: &mut [u8], r: TimeRange) -> usize {
 fn asked(line: &[u8], at: usize, r: TimeRange, out: &mut [u8]) -> usize {
     let verb = tokens::token(line, at);
     let here = tokens::next(line, at);
-    let Small::Is(n) = numbers::read_small(tokens::token(line, here)) else {
+    let Some(n) = numbers::read_small(tokens::token(line, here)) else {
         return answers::bad(out);
     };
     if !tokens::ended(line, tokens::next(line, here)) {
@@ -33,11 +31,11 @@ fn asked(line: &[u8], at: usize, r: TimeRange, out: &mut [u8]) -> usize {
 
 // LO HI ..
 pub fn answer(line: &[u8], at: usize, out: &mut [u8]) -> usize {
-    let Limit::Is(lower) = bounds::read_limit(tokens::token(line, at)) else {
+    let Some(lower) = bounds::read_limit(tokens::token(line, at)) else {
         return answers::bad(out);
     };
     let here = tokens::next(line, at);
-    let Limit::Is(upper) = bounds::read_limit(tokens::token(line, here)) else {
+    let Some(upper) = bounds::read_limit(tokens::token(line, here)) else {
         return answers::bad(out);
     };
     asked(

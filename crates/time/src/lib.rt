@@ -26,10 +26,7 @@ pub struct TimeRange {
 fn later(time: Time, delta: Time) -> Time
     ensures { result ≡ later_time time delta }
 {
-    if time <= LAST - delta {
-        return time + delta;
-    }
-    LAST
+    time.saturating_add(delta)
 }
 
 impl Bound {
@@ -131,23 +128,16 @@ impl TimeRange {
     pub fn contains(self, time: Time) -> bool
         ensures { result ≡ in_range self time }
     {
-        let lower = self.lower;
-        let upper = self.upper;
-        if !lower.lower_met(time) {
-            return false;
-        }
-        upper.upper_met(time)
+        self.lower.lower_met(time) && self.upper.upper_met(time)
     }
 
     // Shifts the range into the future.
     pub fn shift(self, delta: Time) -> Self
         ensures { result ≡ shifted_range self delta }
     {
-        let lower = self.lower;
-        let upper = self.upper;
         TimeRange {
-            lower: lower.shift(delta),
-            upper: upper.shift(delta),
+            lower: self.lower.shift(delta),
+            upper: self.upper.shift(delta),
         }
     }
 }

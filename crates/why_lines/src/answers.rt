@@ -1,11 +1,11 @@
-// What the explainer told, as a line. Each function gives its length.
+// What the explainer told, as a line.
 use crate::items;
 use explainer::causes::{NO_CANDIDATE, TOLD};
 use graph_tables::inner;
 use graph_tables::layout::{BOUND_SPAN, WORD32};
 use graph_tables::refusals::Refusal;
+use graph_text::replies::Reply;
 use run_steps::failures;
-use text::{answers, output};
 use time::Bound;
 
 // The bound of a word; of a word that is none, no bound.
@@ -17,47 +17,49 @@ fn bound(word: u64) -> Bound {
 }
 
 // A limit's three words: clock, lower and upper bound.
-fn put_limit(out: &mut [u8], at: usize, part: &[u64]) -> usize {
-    if part.len() < 3 {
-        return at;
-    }
-    let a = output::put(out, at, b' ');
-    let b = output::put_number(out, a, part[0]);
-    let c = output::put(out, b, b' ');
-    let d = output::put_bound(out, c, bound(part[1]));
-    let e = output::put(out, d, b' ');
-    output::put_bound(out, e, bound(part[2]))
+fn put_limit(out: &mut Reply, part: &[u64]) {
+    let [clock, lower, upper, ..] = part else {
+        return;
+    };
+    out.put(b' ');
+    out.put_number(*clock);
+    out.put(b' ');
+    out.put_bound(bound(*lower));
+    out.put(b' ');
+    out.put_bound(bound(*upper));
 }
 
 // What fails, and its part.
-fn put_failing(out: &mut [u8], at: usize, failing: u64, part: &[u64]) -> usize {
-    if failing == NO_CANDIDATE {
-        return output::put_all(out, at, b" none");
+fn put_failing(out: &mut Reply, failing: u64, part: &[u64]) {
+    match failing {
+        NO_CANDIDATE => out.put_all(b" none"),
+        failures::GUARD => {
+            out.put_all(b" guard");
+            items::put_items(out, part);
+        }
+        failures::LIMIT => {
+            out.put_all(b" limit");
+            put_limit(out, part);
+        }
+        _ => {
+            out.put_all(b" invariant");
+            put_limit(out, part);
+        }
     }
-    if failing == failures::GUARD {
-        let here = output::put_all(out, at, b" guard");
-        return items::put_items(out, here, part);
-    }
-    if failing == failures::LIMIT {
-        let here = output::put_all(out, at, b" limit");
-        return put_limit(out, here, part);
-    }
-    let here = output::put_all(out, at, b" invariant");
-    put_limit(out, here, part)
 }
 
 // The answer, and after an 8 the process and what fails.
-pub fn told(out: &mut [u8], words: [u64; TOLD], part: &[u64]) -> usize {
-    if words[0] == 0 {
-        return answers::ok(out);
+pub fn told(out: &mut Reply, words: [u64; TOLD], part: &[u64]) {
+    let [answer, process, _, failing, ..] = words;
+    if answer == 0 {
+        return out.ok();
     }
-    let a = output::put_all(out, 0, b"refused ");
-    let b = output::put_number(out, a, words[0]);
-    if words[0] != Refusal::UnsatisfiedGuard.number() as u64 {
-        return answers::end(out, b);
+    out.put_all(b"refused ");
+    out.put_number(answer);
+    if answer == u64::from(Refusal::UnsatisfiedGuard.number()) {
+        out.put(b' ');
+        out.put_number(process);
+        put_failing(out, failing, part);
     }
-    let c = output::put(out, b, b' ');
-    let d = output::put_number(out, c, words[1]);
-    let last = put_failing(out, d, words[3], part);
-    answers::end(out, last)
+    out.end();
 }

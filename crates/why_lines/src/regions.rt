@@ -3,6 +3,7 @@ use explainer::layout;
 use graph_tables::layout::{GUARDS_START, LIMITS_START};
 use system_tables::inner::words;
 use system_tables::sizes;
+use text::rows;
 
 // Words of one slice from a place on, to a place of another, as far as both reach.
 fn copy_region(to: &mut [u64], at: usize, from: &[u64], start: usize, n: usize) {
@@ -12,16 +13,9 @@ fn copy_region(to: &mut [u64], at: usize, from: &[u64], start: usize, n: usize) 
     if from.len() < start {
         return;
     }
-    let part = &from[start..];
-    let room = to.len() - at;
-    for i in 0..n {
-        if part.len() <= i {
-            return;
-        }
-        if room <= i {
-            return;
-        }
-        to[at + i] = part[i];
+    let part = rows::part(&from[start..], n);
+    for (word, &read) in to[at..].iter_mut().zip(part) {
+        *word = read;
     }
 }
 

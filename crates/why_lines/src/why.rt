@@ -3,79 +3,43 @@ use crate::answers;
 use explainer::causes::TOLD;
 use explainer::why;
 use graph_tables::ids;
+use graph_text::faults::Fault;
+use graph_text::lines::Line;
+use graph_text::pairs;
 use graph_text::pairs::Pair;
-use graph_text::{lists, pairs};
+use graph_text::replies::Reply;
 use system_tables::ids::{Action, PgId};
-use text::numbers::{Number, Small};
-use text::{items, numbers, tokens};
+use text::rows;
 
-// ( G:L .. ) W, for an action of a graph
-fn why_by<'a>(
-    line: &[u8],
-    at: usize,
+fn answered<'a>(
+    mut line: Line,
     t: &[u64],
     s: &[u64],
     guards: &'a [u64],
     limits: &'a [u64],
-    g: u32,
-    action: Action,
-    out: &mut [u8],
-) -> usize {
-    if !tokens::is(tokens::token(line, at), b"(") {
-        return text::answers::bad(out);
-    }
-    let posts = pairs::read_posts(line, tokens::next(line, at));
-    let last = posts.next;
-    if !tokens::is(tokens::token(line, last), b")") {
-        return text::answers::bad(out);
-    }
-    let Number::Is(word) = lists::read_last_word(line, tokens::next(line, last)) else {
-        return text::answers::bad(out);
-    };
-    let words = posts.words;
-    let asked = items::part(&words, posts.count);
+    out: &mut Reply,
+) -> Result<(), Fault> {
+    let g = PgId(line.number()?);
+    let Pair { graph, own } = line.read(pairs::read_action)?;
+    let action = Action(PgId(graph), ids::Action(own));
+    let posts = pairs::read_posts(&mut line)?;
+    let word = line.last_wide()?;
+    let asked = rows::part(&posts.items, posts.count);
     let mut told = [0u64; TOLD];
-    let part = why::why(
-        t,
-        s,
-        guards,
-        limits,
-        PgId(g),
-        action,
-        asked,
-        word,
-        &mut told,
-    );
-    answers::told(out, told, part)
+    let part = why::why(t, s, guards, limits, g, action, asked, word, &mut told);
+    answers::told(out, told, part);
+    Ok(())
 }
 
-// t why G G:A POSTS W
+// G G:A POSTS W
 pub fn answer<'a>(
-    line: &[u8],
-    at: usize,
+    line: Line,
     t: &[u64],
     s: &[u64],
     guards: &'a [u64],
     limits: &'a [u64],
-    out: &mut [u8],
-) -> usize {
-    let Small::Is(g) = numbers::read_small(tokens::token(line, at)) else {
-        return text::answers::bad(out);
-    };
-    let second = tokens::next(line, at);
-    let Pair::Is { graph, own } = pairs::read_action(tokens::token(line, second)) else {
-        return text::answers::bad(out);
-    };
-    let action = Action(PgId(graph), ids::Action(own));
-    why_by(
-        line,
-        tokens::next(line, second),
-        t,
-        s,
-        guards,
-        limits,
-        g,
-        action,
-        out,
-    )
+    out: &mut Reply,
+) {
+    let told = answered(line, t, s, guards, limits, out);
+    out.tell(told);
 }

@@ -1,24 +1,26 @@
 // What a call answers, as a number and as words at the front of a lent slice. A refusal writes none, but for the graph of a wait.
-ghost use Rattle.std.specs.Prelude.{◌≡◌, ◌+◌, ◌<◌};
+ghost use Rattle.std.specs.Prelude.{◌≡◌, ◌+◌, ◌<◌, ℕ, List};
 ghost use Rattle.system_builder.specs.Systems.{handed_kind};
 ghost use Rattle.graph_tables.specs.Sizes.{message_room};
-ghost use Rattle.c_words.specs.Told.{done_told, placed_told, var_type_told, held_told, now_told, length_told, queued_told, entry_told};
-ghost use Rattle.c_words.specs.Told.{value_told, graph_entry_told, waited_told, done_saying, message_said, kind_said, channel_said, stepped_told};
-ghost use Rattle.c_words.specs.Told.{sort_said, bound_said, channel_told, Says, entry_put, slot_put, message_put};
+ghost use Rattle.program_graph.specs.Outcomes.{accepts, values_said};
+ghost use Rattle.c_words.specs.Told.{answer_told, number_said, truth_said, type_said, value_said, queued_said, entry_said, graph_entry_said};
+ghost use Rattle.c_words.specs.Told.{done_told, waited_told, done_saying, message_said, kind_said, channel_said, event_said};
+ghost use Rattle.c_words.specs.Told.{sort_said, bound_said, channel_told, Says, put};
 
 use crate::inner::values;
-use channel_system::answers;
-use grammar::values::{Slot, Val};
-use graph_tables::answers::{Done, Entry, Placed, VarType};
+use channel_system::answers::{Event, WaitError};
+use grammar::inner::slots;
+use grammar::values::{Type, Val};
+use graph_tables::answers::{Answer, Entry};
 use graph_tables::handed::Message;
-use program_graph::answers::{Held, Listed, Value};
 use system_builder::answers::ChannelRead;
 use system_builder::handed::Kinds;
-use system_tables::ids::{ChannelCapacity, Communication};
+use system_tables::ids::{ChannelCapacity, Communication, PgId};
 use system_tables::inner::writers;
 use system_tables::layout;
 
-// Numbers behind the rules' own: a lent result slice is too short, an argument is nothing that it could be.
+// Numbers behind the rules' own: a lent result slice is too short, an argument is nothing that it could be. They are numbers and
+// no enum, since they are what C is told (include/njunnemar.h).
 pub const SHORT: u32 = 35;
 
 pub const MALFORMED: u32 = 36;
@@ -50,205 +52,178 @@ pub const MESSAGE: usize = 9;
 // Graph, kind, channel, and a message.
 pub const EVENT: usize = 12;
 
-pub fn done(answer: Done) -> u32
+pub fn done(answer: Answer<()>) -> u32
     ensures { result ≡ (done_told answer).number }
 {
     match answer {
-        Done::Accepted => 0,
-        Done::Refused(r) => r.number(),
+        Ok(()) => 0,
+        Err(r) => r.number(),
     }
 }
 
-pub fn placed(answer: Placed, out: &mut [u64]) -> u32
-    ensures { Says result out.new out.old (placed_told answer) }
+// What a call answers where it accepts, and the words that tell it.
+pub trait Tell {
+    ghost said: { Self → List ℕ };
+
+    fn tell(self, out: &mut [u64])
+        ensures { out.new ≡ put (said self) out.old };
+}
+
+pub fn told<T: Tell>(answer: Answer<T>, out: &mut [u64]) -> u32
+    ensures { Says result out.new out.old (answer_told T.said answer) }
 {
     match answer {
-        Placed::At(n) => {
-            values::put(out, 0, n as u64);
+        Ok(x) => {
+            x.tell(out);
             0
         }
-        Placed::Refused(r) => r.number(),
+        Err(r) => r.number(),
     }
 }
 
-pub fn var_type(answer: VarType, out: &mut [u64]) -> u32
-    ensures { Says result out.new out.old (var_type_told answer) }
-{
-    match answer {
-        VarType::Known(kind) => {
-            values::put(out, 0, kind.word());
-            0
-        }
-        VarType::Refused(r) => r.number(),
+// The number of a new part, and a time.
+impl Tell for u32 {
+    ghost said = { number_said };
+
+    fn tell(self, out: &mut [u64]) {
+        values::put_all(out, &[self as u64]);
     }
 }
 
-pub fn held(answer: Held, out: &mut [u64]) -> u32
-    ensures { Says result out.new out.old (held_told answer) }
-{
-    match answer {
-        Held::Is(b) => {
-            values::put(out, 0, b as u64);
-            0
-        }
-        Held::Refused(r) => r.number(),
+// A clock's time, as a word.
+impl Tell for u64 {
+    ghost said = { number_said };
+
+    fn tell(self, out: &mut [u64]) {
+        values::put_all(out, &[self]);
     }
 }
 
-pub fn time(answer: answers::Now, out: &mut [u64]) -> u32
-    ensures { Says result out.new out.old (now_told answer) }
-{
-    match answer {
-        answers::Now::Is(n) => {
-            values::put(out, 0, n as u64);
-            0
-        }
-        answers::Now::Refused(r) => r.number(),
+// A length.
+impl Tell for usize {
+    ghost said = { number_said };
+
+    fn tell(self, out: &mut [u64]) {
+        values::put_all(out, &[self as u64]);
     }
 }
 
-pub fn length(answer: answers::Length, out: &mut [u64]) -> u32
-    ensures { Says result out.new out.old (length_told answer) }
-{
-    match answer {
-        answers::Length::Is(n) => {
-            values::put(out, 0, n as u64);
-            0
-        }
-        answers::Length::Refused(r) => r.number(),
+impl Tell for bool {
+    ghost said = { truth_said };
+
+    fn tell(self, out: &mut [u64]) {
+        values::put_all(out, &[self as u64]);
     }
 }
 
-pub fn value(answer: Value, out: &mut [u64]) -> u32
-    ensures { Says result out.new out.old (value_told answer) }
-{
-    match answer {
-        Value::Is(x) => {
-            values::put_value(out, 0, x);
-            0
-        }
-        Value::Refused(r) => r.number(),
+impl Tell for Type {
+    ghost said = { type_said };
+
+    fn tell(self, out: &mut [u64]) {
+        values::put_all(out, &[self.word()]);
     }
 }
 
-pub fn queued(answer: answers::Queued, out: &mut [u64]) -> u32
-    ensures { Says result out.new out.old (queued_told answer) }
-{
-    match answer {
-        answers::Queued::At(x) => {
-            values::put(out, 0, 1);
-            values::put_value(out, 1, x);
-            0
-        }
-        answers::Queued::End => {
-            values::put(out, 0, 0);
-            values::put_value(out, 1, Val::Boolean(false));
-            0
-        }
-        answers::Queued::Refused(r) => r.number(),
+impl Tell for Val {
+    ghost said = { value_said };
+
+    fn tell(self, out: &mut [u64]) {
+        values::put_all(out, &[self.kind().word(), slots::payload_of(self)]);
     }
 }
 
-fn put_entry(out: &mut [u64], i: usize, entry: Entry)
-    requires { i < 8 }
-    ensures { out.new ≡ entry_put i entry out.old }
-{
-    let action = entry.action;
-    values::put(out, i, action.0 as u64);
-    values::put(out, i + 1, entry.process as u64);
-    values::put(out, i + 2, entry.post as u64);
-}
+impl Tell for Option<Val> {
+    ghost said = { queued_said };
 
-pub fn entry(answer: Listed, out: &mut [u64]) -> u32
-    ensures { Says result out.new out.old (entry_told answer) }
-{
-    match answer {
-        Listed::At(e) => {
-            values::put(out, 0, 1);
-            put_entry(out, 1, e);
-            0
+    fn tell(self, out: &mut [u64]) {
+        match self {
+            Some(x) => values::put_all(out, &[1, x.kind().word(), slots::payload_of(x)]),
+            None => values::put_all(out, &[0; QUEUED]),
         }
-        Listed::End => {
-            values::put(out, 0, 0);
-            values::put(out, 1, 0);
-            values::put(out, 2, 0);
-            values::put(out, 3, 0);
-            0
-        }
-        Listed::Refused(r) => r.number(),
     }
 }
 
-pub fn graph_entry(answer: answers::Listed, out: &mut [u64]) -> u32
-    ensures { Says result out.new out.old (graph_entry_told answer) }
-{
-    match answer {
-        answers::Listed::At(g, e) => {
-            values::put(out, 0, 1);
-            values::put(out, 1, g.0 as u64);
-            put_entry(out, 2, e);
-            0
+impl Tell for Option<Entry> {
+    ghost said = { entry_said };
+
+    fn tell(self, out: &mut [u64]) {
+        match self {
+            Some(e) => values::put_all(
+                out,
+                &[1, e.action.0 as u64, e.process as u64, e.post as u64],
+            ),
+            None => values::put_all(out, &[0; ENTRY]),
         }
-        answers::Listed::End => {
-            values::put(out, 0, 0);
-            values::put(out, 1, 0);
-            values::put(out, 2, 0);
-            values::put(out, 3, 0);
-            values::put(out, 4, 0);
-            0
+    }
+}
+
+impl Tell for Option<(PgId, Entry)> {
+    ghost said = { graph_entry_said };
+
+    fn tell(self, out: &mut [u64]) {
+        match self {
+            Some((g, e)) => values::put_all(
+                out,
+                &[
+                    1,
+                    g.0 as u64,
+                    e.action.0 as u64,
+                    e.process as u64,
+                    e.post as u64,
+                ],
+            ),
+            None => values::put_all(out, &[0; GRAPH_ENTRY]),
         }
-        answers::Listed::Refused(r) => r.number(),
     }
 }
 
 // The graph that stands against a wait is told where the wait is refused with 9.
-pub fn waited(answer: answers::Waited, out: &mut [u64]) -> u32
+pub fn waited(answer: Result<(), WaitError>, out: &mut [u64]) -> u32
     ensures { Says result out.new out.old (waited_told answer) }
 {
     match answer {
-        answers::Waited::Accepted => 0,
-        answers::Waited::Invariant(g) => {
-            values::put(out, 0, g.0 as u64);
+        Ok(()) => 0,
+        Err(WaitError::Invariant(g)) => {
+            values::put_all(out, &[g.0 as u64]);
             graph_tables::refusals::Refusal::Invariant.number()
         }
-        answers::Waited::Refused(r) => r.number(),
+        Err(WaitError::Refused(r)) => r.number(),
     }
 }
 
-// The values of a message, from a place on: how many, then all four.
-fn put_message(out: &mut [u64], i: usize, message: Message)
-    requires { i < 8 }
-    ensures { out.new ≡ message_put i message out.old }
-{
-    let slots = message.values;
-    let a = slots[0];
-    let b = slots[1];
-    let c = slots[2];
-    let d = slots[3];
-    values::put(out, i, message.count as u64);
-    put_slot(out, i + 1, a);
-    put_slot(out, i + 3, b);
-    put_slot(out, i + 5, c);
-    put_slot(out, i + 7, d);
+// How many values a message has, then the kind and the payload of each of its four places.
+impl Tell for Message {
+    ghost said = { message_said };
+
+    fn tell(self, out: &mut [u64]) {
+        let [a, b, c, d] = self.values;
+        values::put_all(
+            out,
+            &[
+                self.count as u64,
+                a.value.kind().word(),
+                slots::payload_of(a.value),
+                b.value.kind().word(),
+                slots::payload_of(b.value),
+                c.value.kind().word(),
+                slots::payload_of(c.value),
+                d.value.kind().word(),
+                slots::payload_of(d.value),
+            ],
+        );
+    }
 }
 
-fn put_slot(out: &mut [u64], i: usize, slot: Slot)
-    requires { i < 16 }
-    ensures { out.new ≡ slot_put i slot out.old }
+// A send: its clause names the answer and the message apart, as the rules do.
+pub fn message(said: Answer<Message>, out: &mut [u64]) -> u32
+    ensures { Says result out.new out.old (done_saying (accepts said) (message_said (values_said said))) }
 {
-    let x = slot.value;
-    values::put_value(out, i, x);
-}
-
-pub fn message(answer: Done, m: Message, out: &mut [u64]) -> u32
-    ensures { Says result out.new out.old (done_saying answer (message_said m)) }
-{
-    match answer {
-        Done::Accepted => {
-            put_message(out, 0, m);
+    match said {
+        Ok(m) => {
+            m.tell(out);
             0
         }
-        Done::Refused(r) => r.number(),
+        Err(r) => r.number(),
     }
 }
 
@@ -270,23 +245,29 @@ fn channel_of(on: Communication) -> u64
     }
 }
 
-pub fn event(told: answers::Stepped, out: &mut [u64]) -> u32
-    ensures { Says result out.new out.old (stepped_told told) }
-{
-    let answer = told.answer;
-    let event = told.event;
-    match answer {
-        Done::Accepted => {
-            let g = event.pg_id;
-            let on = event.on;
-            let values = event.values;
-            values::put(out, 0, g.0 as u64);
-            values::put(out, 1, communication(on));
-            values::put(out, 2, channel_of(on));
-            put_message(out, 3, values);
-            0
-        }
-        Done::Refused(r) => r.number(),
+// The graph, the communication, the message.
+impl Tell for Event {
+    ghost said = { event_said };
+
+    fn tell(self, out: &mut [u64]) {
+        let [a, b, c, d] = self.values.values;
+        values::put_all(
+            out,
+            &[
+                self.pg_id.0 as u64,
+                communication(self.on),
+                channel_of(self.on),
+                self.values.count as u64,
+                a.value.kind().word(),
+                slots::payload_of(a.value),
+                b.value.kind().word(),
+                slots::payload_of(b.value),
+                c.value.kind().word(),
+                slots::payload_of(c.value),
+                d.value.kind().word(),
+                slots::payload_of(d.value),
+            ],
+        );
     }
 }
 
@@ -323,20 +304,24 @@ fn kind_at(kinds: Kinds, i: usize) -> u64
 pub fn channel(read: ChannelRead, out: &mut [u64]) -> u32
     ensures { Says result out.new out.old (channel_told read) }
 {
-    let answer = read.answer;
     let kinds = read.kinds;
     let capacity = read.capacity;
-    match answer {
-        Done::Accepted => {
-            values::put(out, 0, kinds.count as u64);
-            values::put(out, 1, kind_at(kinds, 0));
-            values::put(out, 2, kind_at(kinds, 1));
-            values::put(out, 3, kind_at(kinds, 2));
-            values::put(out, 4, kind_at(kinds, 3));
-            values::put(out, 5, sort_of(capacity));
-            values::put(out, 6, bound_of(capacity));
+    match read.answer {
+        Ok(()) => {
+            values::put_all(
+                out,
+                &[
+                    kinds.count as u64,
+                    kind_at(kinds, 0),
+                    kind_at(kinds, 1),
+                    kind_at(kinds, 2),
+                    kind_at(kinds, 3),
+                    sort_of(capacity),
+                    bound_of(capacity),
+                ],
+            );
             0
         }
-        Done::Refused(r) => r.number(),
+        Err(r) => r.number(),
     }
 }

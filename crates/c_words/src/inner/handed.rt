@@ -10,92 +10,80 @@ use grammar::values::{Slot, Type};
 use graph_tables::handed::{Limit, Limits, Message, Vars};
 use graph_tables::ids::{Clock, Var};
 use graph_tables::inner;
+use std::array;
 use system_builder::handed::{Kind, Kinds};
 use system_tables::ids::ChannelCapacity;
 use time::{Bound, TimeRange};
 
 // ---- the kinds of a channel: 0 boolean, 1 integer
+#[tactic(auto, unfolding(crate::specs::Handed::kinds_known, crate::specs::Handed::kind_known))]
 pub fn kinds_known(kinds: &[u32]) -> bool
     ensures { result ≡ kinds_known kinds.now }
 {
-    for i in 0..kinds.len() {
-        if 1 < kinds[i] {
-            return false;
-        }
-    }
-    true
+    kinds.iter().all(|k| *k <= 1)
 }
 
+#[tactic(auto, unfolding(crate::specs::Handed::kind_from))]
 fn kind_at(kinds: &[u32], i: usize) -> Kind
     ensures { result ≡ kind_from kinds.now i }
 {
-    if values::number_at(kinds, i) == 0 {
-        return Kind {
-            kind: Type::Boolean,
-        };
-    }
-    Kind {
-        kind: Type::Integer,
-    }
+    let kind = if values::number_at(kinds, i) == 0 {
+        Type::Boolean
+    } else {
+        Type::Integer
+    };
+    Kind { kind }
 }
 
+#[tactic(auto, unfolding(crate::specs::Handed::kinds_from))]
 pub fn kinds_of(kinds: &[u32]) -> Kinds
     ensures { result ≡ kinds_from kinds.now }
 {
-    let a = kind_at(kinds, 0);
-    let b = kind_at(kinds, 1);
-    let c = kind_at(kinds, 2);
-    let d = kind_at(kinds, 3);
     Kinds {
-        kinds: [a, b, c, d],
+        kinds: array::from_fn(|i| kind_at(kinds, i)),
         count: kinds.len(),
     }
 }
 
 // The kinds of a channel, and the sort of its capacity.
+#[tactic(auto, unfolding(crate::specs::Handed::channel_known))]
 pub fn channel_known(kinds: &[u32], sort: u32) -> bool
     ensures { result ≡ channel_known kinds.now sort }
 {
-    if !kinds_known(kinds) {
-        return false;
-    }
-    sort <= 2
+    kinds_known(kinds) && sort <= 2
 }
 
 // ---- a capacity: 0 bounded, 1 unbounded, 2 a sink
 pub fn capacity_of(sort: u32, bound: u32) -> ChannelCapacity
     ensures { result ≡ capacity_as sort bound }
 {
-    if sort == 0 {
-        return ChannelCapacity::Bounded(bound);
+    match sort {
+        0 => ChannelCapacity::Bounded(bound),
+        1 => ChannelCapacity::Unbounded,
+        _ => ChannelCapacity::Sink,
     }
-    if sort == 1 {
-        return ChannelCapacity::Unbounded;
-    }
-    ChannelCapacity::Sink
 }
 
 // ---- variables
+#[tactic(auto, unfolding(crate::specs::Handed::var_from))]
 fn var_at(vars: &[u32], i: usize) -> Var
     ensures { result ≡ var_from vars.now i }
 {
     Var(values::number_at(vars, i))
 }
 
+#[tactic(auto, unfolding(crate::specs::Handed::vars_from))]
 pub fn vars_of(vars: &[u32]) -> Vars
     ensures { result ≡ vars_from vars.now }
 {
-    let a = var_at(vars, 0);
-    let b = var_at(vars, 1);
-    let c = var_at(vars, 2);
-    let d = var_at(vars, 3);
     Vars {
-        vars: [a, b, c, d],
+        vars: array::from_fn(|i| var_at(vars, i)),
         count: vars.len(),
     }
 }
 
 // ---- values: a kind and a payload each
+#[tactic(auto, unfolding(crate::specs::Handed::value_known))]
 fn value_known(ws: &[u64], i: usize) -> bool
     requires { 2 * i + 1 < length ws.now }
     ensures { result ≡ value_known ws.now i }
@@ -103,20 +91,14 @@ fn value_known(ws: &[u64], i: usize) -> bool
     slots::is_value(ws[2 * i], ws[2 * i + 1])
 }
 
+#[tactic(auto, unfolding(crate::specs::Handed::values_known))]
 pub fn values_known(ws: &[u64]) -> bool
     ensures { result ≡ values_known ws.now }
 {
-    if ws.len() % 2 != 0 {
-        return false;
-    }
-    for i in 0..ws.len() / 2 {
-        if !value_known(ws, i) {
-            return false;
-        }
-    }
-    true
+    ws.len() % 2 == 0 && (0..ws.len() / 2).all(|i| value_known(ws, i))
 }
 
+#[tactic(auto, unfolding(crate::specs::Handed::slot_from))]
 fn slot_at(ws: &[u64], i: usize) -> Slot
     requires { i < 24 }
     ensures { result ≡ slot_from ws.now i }
@@ -125,59 +107,47 @@ fn slot_at(ws: &[u64], i: usize) -> Slot
     Slot { value }
 }
 
+#[tactic(auto, unfolding(crate::specs::Handed::message_from))]
 pub fn message_of(ws: &[u64]) -> Message
     ensures { result ≡ message_from ws.now }
 {
-    let a = slot_at(ws, 0);
-    let b = slot_at(ws, 2);
-    let c = slot_at(ws, 4);
-    let d = slot_at(ws, 6);
     Message {
-        values: [a, b, c, d],
+        values: array::from_fn(|i| slot_at(ws, 2 * i)),
         count: ws.len() / 2,
     }
 }
 
 // ---- limits: a clock and two bounds each, as the words of a table have them
+#[tactic(auto, unfolding(crate::specs::Handed::bound_from))]
 fn bound_from(w: u64) -> Bound
     ensures { result ≡ bound_from w }
 {
     inner::bound_of(w % 17179869184)
 }
 
+#[tactic(auto, unfolding(crate::specs::Handed::bound_known))]
 fn bound_known(w: u64) -> bool
     ensures { result ≡ bound_known w }
 {
     inner::bound_word(bound_from(w)) == w
 }
 
+#[tactic(auto, unfolding(crate::specs::Handed::limit_known))]
 fn limit_known(ws: &[u64], i: usize) -> bool
     requires { 3 * i + 2 < length ws.now }
     ensures { result ≡ limit_known ws.now i }
 {
-    if 4294967295 < ws[3 * i] {
-        return false;
-    }
-    if !bound_known(ws[3 * i + 1]) {
-        return false;
-    }
-    bound_known(ws[3 * i + 2])
+    ws[3 * i] <= 4294967295 && bound_known(ws[3 * i + 1]) && bound_known(ws[3 * i + 2])
 }
 
+#[tactic(auto, unfolding(crate::specs::Handed::limits_known))]
 pub fn limits_known(ws: &[u64]) -> bool
     ensures { result ≡ limits_known ws.now }
 {
-    if ws.len() % 3 != 0 {
-        return false;
-    }
-    for i in 0..ws.len() / 3 {
-        if !limit_known(ws, i) {
-            return false;
-        }
-    }
-    true
+    ws.len() % 3 == 0 && (0..ws.len() / 3).all(|i| limit_known(ws, i))
 }
 
+#[tactic(auto, unfolding(crate::specs::Handed::limit_from))]
 fn limit_at(ws: &[u64], i: usize) -> Limit
     requires { i < 24 }
     ensures { result ≡ limit_from ws.now i }
@@ -191,19 +161,12 @@ fn limit_at(ws: &[u64], i: usize) -> Limit
     }
 }
 
+#[tactic(auto, unfolding(crate::specs::Handed::limits_from))]
 pub fn limits_of(ws: &[u64]) -> Limits
     ensures { result ≡ limits_from ws.now }
 {
-    let a = limit_at(ws, 0);
-    let b = limit_at(ws, 3);
-    let c = limit_at(ws, 6);
-    let d = limit_at(ws, 9);
-    let e = limit_at(ws, 12);
-    let f = limit_at(ws, 15);
-    let g = limit_at(ws, 18);
-    let h = limit_at(ws, 21);
     Limits {
-        limits: [a, b, c, d, e, f, g, h],
+        limits: array::from_fn(|i| limit_at(ws, 3 * i)),
         count: ws.len() / 3,
     }
 }

@@ -1,9 +1,6 @@
 // Words at a place of a slice, and a value among them.
 ghost use Rattle.std.specs.Prelude.{◌≡◌, ◌+◌, ◌<◌, get_or, set};
-ghost use Rattle.grammar.specs.Slots.{kind_in, payload_in};
-
-use grammar::inner::slots;
-use grammar::values::Val;
+ghost use Rattle.c_words.specs.Told.{put};
 
 // What stands at a place, 0 past the end.
 pub fn word_at(ws: &[u64], i: usize) -> u64
@@ -33,11 +30,11 @@ pub fn put(out: &mut [u64], i: usize, w: u64)
     }
 }
 
-// The kind and the payload of a value.
-pub fn put_value(out: &mut [u64], i: usize, x: Val)
-    requires { i < 16 }
-    ensures { out.new ≡ set (set out.old i (kind_in x)) (i + 1) (payload_in x) }
+// Words from the front on, as many as the slice has.
+pub fn put_all(out: &mut [u64], words: &[u64])
+    ensures { out.new ≡ put words.now out.old }
 {
-    put(out, i, x.kind().word());
-    put(out, i + 1, slots::payload_of(x));
+    for (i, &w) in words.iter().enumerate() {
+        put(out, i, w);
+    }
 }

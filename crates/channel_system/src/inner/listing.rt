@@ -11,8 +11,8 @@ ghost use Rattle.channel_system.specs.Steps.{spoken_by};
 ghost use Rattle.channel_system.specs.Listing.{listed_as, entries_by, listed_on, listed_below, entry_at};
 ghost use Rattle.channel_system.specs.Facts.{Fitting};
 
-use crate::answers::Listed;
 use crate::inner::{channels, spoken};
+use graph_tables::answers::{Answer, Entry};
 use graph_tables::ids::Action;
 use graph_tables::inner;
 use queues::inner::ring;
@@ -74,7 +74,7 @@ pub fn seek_on(t: &[u64], s: &[u64], g: usize, k: usize) -> Sought
 }
 
 // Entry k of what all graphs may do.
-pub fn entry_at(t: &[u64], s: &[u64], k: usize) -> Listed
+pub fn entry_at(t: &[u64], s: &[u64], k: usize) -> Answer<Option<(PgId, Entry)>>
     requires { SystemSound t.now × StateSound t.now s.now }
     ensures { result ≡ entry_at (listed_below t.now s.now (graph_count t.now)) k }
 {
@@ -82,12 +82,12 @@ pub fn entry_at(t: &[u64], s: &[u64], k: usize) -> Listed
     for g in 0..system_tables::inner::words::graph_count(t) {
         match seek_on(t, s, g, left) {
             Sought::Found(entry) => {
-                return Listed::At(PgId(g as u32), entry);
+                return Ok(Some((PgId(g as u32), entry)));
             }
             Sought::Left(rest) => {
                 left = rest;
             }
         }
     }
-    Listed::End
+    Ok(None)
 }

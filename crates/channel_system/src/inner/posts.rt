@@ -13,22 +13,15 @@ pub const FEW: usize = sizes::PROCESSES + 1;
 pub fn own(posts: &[u64], g: u32) -> bool
     ensures { result ≡ all_below (length posts.now) (own_post posts.now g) }
 {
-    for i in 0..posts.len() {
-        if posts[i] / WORD32 != g as u64 {
-            return false;
-        }
-    }
-    true
+    posts.iter().all(|post| *post / WORD32 == g as u64)
 }
 
 // How many of n posts are looked at.
+#[tactic(auto, unfolding(crate::specs::Steps::few_of))]
 pub fn few(n: usize) -> usize
     ensures { result ≡ few_of n }
 {
-    if FEW <= n {
-        return FEW;
-    }
-    n
+    n.min(FEW)
 }
 
 // The locations of the first n.
@@ -37,7 +30,7 @@ pub fn locations(posts: &[u64], n: usize, to: &mut [u32])
     ensures { (take n to.new ≡ take n (locations_of posts.now))
         × (length to.new ≡ length to.old) }
 {
-    for i in 0..n {
-        to[i] = (posts[i] % WORD32) as u32;
+    for (i, &post) in posts[..n].iter().enumerate() {
+        to[i] = (post % WORD32) as u32;
     }
 }

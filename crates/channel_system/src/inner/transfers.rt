@@ -9,14 +9,14 @@ ghost use Rattle.system_state.specs.Fits.{StateSound};
 ghost use Rattle.channel_system.specs.Steps.{channel_answer, stores, sent_into, oldest_in, taken_from};
 
 use crate::inner::channels;
-use graph_tables::answers::Done;
+use graph_tables::answers::Answer;
 use graph_tables::handed;
 use queues::inner::ring;
 use system_state::inner::words;
 use system_tables::ids::{ChannelCapacity, Message};
 
 // What the channel says to a step.
-pub fn channel_answer(t: &[u64], s: &[u64], q: usize, m: Message) -> Done
+pub fn channel_answer(t: &[u64], s: &[u64], q: usize, m: Message) -> Answer<()>
     requires { SystemSound t.now × StateSound t.now s.now × (q < channel_count t.now) }
     ensures { result ≡ channel_answer t.now s.now q m }
 {
@@ -30,8 +30,7 @@ fn stores_in(c: ChannelCapacity) -> bool
     ensures { result ≡ stores c }
 {
     match c {
-        ChannelCapacity::Bounded(_) => true,
-        ChannelCapacity::Unbounded => true,
+        ChannelCapacity::Bounded(_) | ChannelCapacity::Unbounded => true,
         ChannelCapacity::Sink => false,
     }
 }

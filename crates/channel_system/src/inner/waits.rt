@@ -9,7 +9,7 @@ ghost use Rattle.channel_system.specs.Waits.{clocks_fit, graph_holds, graph_wait
 ghost use Rattle.channel_system.specs.Waits.{wait_open, system_waits, passed_of};
 ghost use Rattle.channel_system.specs.Facts.{Fitting};
 
-use crate::answers::Waited;
+use crate::answers::WaitError;
 use graph_tables::refusals::Refusal;
 use graph_tables::runs;
 use program_graph::inner::waits;
@@ -33,12 +33,7 @@ fn all_clocks_fit(t: &[u64], s: &[u64], delta: u32) -> bool
     requires { SystemSound t.now × StateSound t.now s.now }
     ensures { result ≡ all_below (graph_count t.now) (clocks_fit s.now delta) }
 {
-    for g in 0..system_tables::inner::words::graph_count(t) {
-        if !clocks_fit(t, s, delta, g) {
-            return false;
-        }
-    }
-    true
+    (0..system_tables::inner::words::graph_count(t)).all(|g| clocks_fit(t, s, delta, g))
 }
 
 // Neither the time nor a clock passes the last time.
@@ -64,7 +59,8 @@ fn graph_holds(t: &[u64], s: &[u64], delta: u32, g: usize) -> bool
     )
 }
 
-// The lowest graph whose invariants stand against the wait, or the number of graphs.
+// The lowest graph whose invariants stand against the wait, or the number of graphs. `find` would need `unwrap_or` of that number, no
+// plainer.
 fn objector(t: &[u64], s: &[u64], delta: u32) -> usize
     requires { SystemSound t.now × StateSound t.now s.now × (all_fit t.now s.now delta ≡ true) }
     ensures { result ≡ lowest (graph_count t.now) (graph_holds t.now s.now delta) }
@@ -83,10 +79,7 @@ pub fn can_wait(t: &[u64], s: &[u64], delta: u32) -> bool
     requires { SystemSound t.now × StateSound t.now s.now }
     ensures { result ≡ wait_open t.now s.now delta }
 {
-    if !all_fit(t, s, delta) {
-        return false;
-    }
-    objector(t, s, delta) == system_tables::inner::words::graph_count(t)
+    all_fit(t, s, delta) && objector(t, s, delta) == system_tables::inner::words::graph_count(t)
 }
 
 fn graph_waits(t: &[u64], s: &[u64], g: usize) -> bool
@@ -103,12 +96,7 @@ fn any_waits(t: &[u64], s: &[u64]) -> bool
     requires { SystemSound t.now × StateSound t.now s.now }
     ensures { result ≡ any_below (graph_count t.now) (graph_waits t.now s.now) }
 {
-    for g in 0..system_tables::inner::words::graph_count(t) {
-        if graph_waits(t, s, g) {
-            return true;
-        }
-    }
-    false
+    (0..system_tables::inner::words::graph_count(t)).any(|g| graph_waits(t, s, g))
 }
 
 // Whether time may pass, and some graph waits for it.
@@ -116,10 +104,7 @@ pub fn is_waiting(t: &[u64], s: &[u64]) -> bool
     requires { SystemSound t.now × StateSound t.now s.now }
     ensures { result ≡ system_waits t.now s.now }
 {
-    if !can_wait(t, s, 1) {
-        return false;
-    }
-    any_waits(t, s)
+    can_wait(t, s, 1) && any_waits(t, s)
 }
 
 // The clocks of graph g are moved.
@@ -156,18 +141,18 @@ fn later(t: &[u64], s: &mut [u64], delta: u32)
 }
 
 // A wait.
-pub fn wait(t: &[u64], s: &mut [u64], delta: u32) -> Waited
+pub fn wait(t: &[u64], s: &mut [u64], delta: u32) -> Result<(), WaitError>
     requires { SystemSound t.now × StateSound t.now s.old }
     ensures { (result ≡ (passed_of t.now s.old delta).answer)
         × (s.new ≡ (passed_of t.now s.old delta).state) }
 {
     if !all_fit(t, s, delta) {
-        return Waited::Refused(Refusal::Overflow);
+        return Err(WaitError::Refused(Refusal::Overflow));
     }
     let g = objector(t, s, delta);
     if g < system_tables::inner::words::graph_count(t) {
-        return Waited::Invariant(PgId(g as u32));
+        return Err(WaitError::Invariant(PgId(g as u32)));
     }
     later(t, s, delta);
-    Waited::Accepted
+    Ok(())
 }

@@ -14,7 +14,7 @@ ghost use Rattle.explainer.specs.Facts.{Asked};
 use crate::causes::{Cause, NO_CANDIDATE};
 use graph_tables::{inner, runs, sizes};
 use run_steps::failures;
-use run_steps::inner::{candidates, copies, limits, listing};
+use run_steps::inner::{candidates, limits, listing};
 
 // Process p has a candidate that passes, by the walk of a step on this process alone.
 fn is_ready(t: &[u64], r: &[u64], after: &[u64], a: u32, posts: &[u32], p: usize) -> bool
@@ -34,7 +34,7 @@ fn is_ready(t: &[u64], r: &[u64], after: &[u64], a: u32, posts: &[u32], p: usize
     )
 }
 
-// The lowest process without one.
+// The lowest process without one. Here and in `first` the number of all stands for none: `find` would need `unwrap_or` of it, no plainer.
 fn unready(t: &[u64], r: &[u64], after: &[u64], a: u32, posts: &[u32]) -> usize
     requires { Sound t.now × RunOf t.now r.now × (after.now ≡ clocks_by t.now a (clocks_in r.now))
         × (length posts.now ≡ run_processes r.now) }
@@ -111,7 +111,7 @@ pub fn cause(t: &[u64], r: &[u64], a: u32, posts: &[u32]) -> Cause
     ensures { result ≡ cause_of t.now (run_at r.now) a posts.now }
 {
     let mut after = [0; sizes::CLOCKS];
-    copies::copy(&mut after, &r[runs::CLOCKS..runs::WORDS]);
+    after.copy_from_slice(&r[runs::CLOCKS..runs::WORDS]);
     listing::reset_by(t, a, &mut after);
     let p = unready(t, r, &after, a, posts);
     let key = inner::key_with(r[runs::PLACES + p], a, posts[p] as u64);

@@ -1,6 +1,6 @@
 // What a plain step of a system would answer, and the cause of an 8. Nothing of the state is written.
 ghost use Rattle.std.specs.Prelude.{◌≡◌, ◌<◌};
-ghost use Rattle.graph_tables.specs.Answers.{done_number};
+ghost use Rattle.graph_tables.specs.Answers.{answer_number};
 ghost use Rattle.graph_tables.specs.Sound.{Sound};
 ghost use Rattle.program_graph.specs.Inner.{run_at, RunOf};
 ghost use Rattle.program_graph.specs.Running.{step_of};
@@ -15,13 +15,12 @@ ghost use Rattle.explainer.specs.Facts.{Standing};
 use crate::causes::{Cause, Found, Part};
 use crate::inner::{cause, same};
 use channel_system::inner::posts;
-use graph_tables::answers::Done;
+use graph_tables::answers::Answer;
 use graph_tables::layout::LIMIT_WIDTH;
 use graph_tables::refusals::Refusal;
 use graph_tables::{inner, runs};
 use program_graph::inner::steps;
 use run_steps::failures;
-use run_steps::inner::copies;
 use system_state::inner::words::run_at;
 use system_tables::ids::{Action, PgId};
 use system_tables::inner::words;
@@ -45,22 +44,22 @@ pub fn answered(number: u32) -> Found
     }
 }
 
-fn number_of(answer: Done) -> u32
-    ensures { result ≡ done_number answer }
+fn number_of(answer: Answer<()>) -> u32
+    ensures { result ≡ answer_number answer }
 {
     match answer {
-        Done::Accepted => 0,
-        Done::Refused(refusal) => refusal.number(),
+        Ok(()) => 0,
+        Err(refusal) => refusal.number(),
     }
 }
 
 // What the graph's own plain step answers, made on a copy of the run.
 fn step_number(t: &[u64], r: &[u64], a: u32, posts: &[u32], word: u64) -> u32
     requires { Sound t.now × RunOf t.now r.now }
-    ensures { result ≡ done_number (step_of t.now (run_at r.now) a posts.now word).answer }
+    ensures { result ≡ answer_number (step_of t.now (run_at r.now) a posts.now word).answer }
 {
     let mut run = [0; runs::WORDS];
-    copies::copy(&mut run, r);
+    run.copy_from_slice(r);
     number_of(steps::step(t, &mut run, a, posts, word))
 }
 

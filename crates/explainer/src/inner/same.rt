@@ -36,12 +36,7 @@ fn all_same(xs: &[u64], ys: &[u64]) -> bool
     requires { length xs.now ≡ length ys.now }
     ensures { result ≡ all_same xs.now ys.now }
 {
-    for i in 0..xs.len() {
-        if xs[i] != ys[i] {
-            return false;
-        }
-    }
-    true
+    xs == ys
 }
 
 // The guard of transition k.
@@ -97,24 +92,14 @@ fn transitions_same(t: &[u64], guards: &[u64], limits: &[u64], g: usize) -> bool
     ensures { result
         ≡ all_below (transition_count t.now) (transition_same t.now guards.now limits.now g) }
 {
-    for k in 0..inner::transition_count(t) {
-        if !transition_same(t, guards, limits, g, k) {
-            return false;
-        }
-    }
-    true
+    (0..inner::transition_count(t)).all(|k| transition_same(t, guards, limits, g, k))
 }
 
 fn locations_same(t: &[u64], limits: &[u64], g: usize) -> bool
     requires { Sound t.now × (length limits.now ≡ all_limits) × (g < graph_room) }
     ensures { result ≡ all_below (location_count t.now) (location_same t.now limits.now g) }
 {
-    for l in 0..inner::location_count(t) {
-        if !location_same(t, limits, g, l) {
-            return false;
-        }
-    }
-    true
+    (0..inner::location_count(t)).all(|l| location_same(t, limits, g, l))
 }
 
 // All of graph g.
@@ -133,12 +118,7 @@ fn graphs_same(t: &[u64], guards: &[u64], limits: &[u64]) -> bool
     requires { SystemSound t.now × (length guards.now ≡ all_guards) × (length limits.now ≡ all_limits) }
     ensures { result ≡ all_below (graph_count t.now) (graph_same t.now guards.now limits.now) }
 {
-    for g in 0..words::graph_count(t) {
-        if !graph_same(t, guards, limits, g) {
-            return false;
-        }
-    }
-    true
+    (0..words::graph_count(t)).all(|g| graph_same(t, guards, limits, g))
 }
 
 // Both tables have their length, and every used word is the built one.

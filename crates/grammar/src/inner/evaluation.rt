@@ -1,15 +1,16 @@
 // The loop of the evaluation, and the operations on operands that wait.
-ghost use Rattle.std.specs.Prelude.{◌≡◌, cond, [], ◌/◌, ◌%◌, ◌<◌, eqb, ltb, length};
+ghost use Rattle.std.specs.Prelude.{◌≡◌, List, get_or, cond, [], ◌/◌, ◌%◌, ◌<◌, eqb, ltb, length};
 ghost use Rattle.std.proofs.Math.IntN.{sub_ℕ};
 ghost use Rattle.grammar.specs.Bits.{from_bits};
 ghost use Rattle.grammar.specs.Items.{item_of, operand_of};
 ghost use Rattle.grammar.specs.Run.{made};
 ghost use Rattle.grammar.specs.Arith.{fitted, product_of, quotient_of, remainder_of};
-ghost use Rattle.grammar.specs.Evaluation.{unary_of, value_step, evaluation_of};
-ghost use Rattle.grammar.specs.Slots.{val_of, slots_of};
-ghost use Rattle.grammar.specs.Inner.{operates_of, whole_of, held_of, values_on, binary_on, operand_on, no_value_of};
+ghost use Rattle.grammar.specs.Evaluation.{blank, unary_of, value_step, evaluation_of};
+ghost use Rattle.grammar.specs.Slots.{slots_of};
+ghost use Rattle.grammar.specs.declared.values.Slot.{Slot};
+ghost use Rattle.grammar.specs.Inner.{slot_of, operates_of, whole_of, held_of, values_on, binary_on, operand_on, no_value_of};
 
-use crate::evaluation::{Evaluated, Evaluation};
+use crate::evaluation::Evaluation;
 use crate::inner::slots;
 use crate::items::Unary;
 use crate::values::{Slot, Val};
@@ -23,19 +24,19 @@ const TRUE: u64 = 4294967297;
 const NONE: u64 = 8589934592;
 
 fn boolean(b: bool) -> u64
-    ensures { held_of result ≡ Evaluated.Known (Val.Boolean b) }
+    ensures { held_of result ≡ Some (Val.Boolean b) }
 {
     if b { TRUE } else { FALSE }
 }
 
 fn integer(n: i32) -> u64
-    ensures { held_of result ≡ Evaluated.Known (Val.Integer n) }
+    ensures { held_of result ≡ Some (Val.Integer n) }
 {
     (n as i64 + 2147483648) as u64
 }
 
 fn of_value(v: Val) -> u64
-    ensures { held_of result ≡ Evaluated.Known v }
+    ensures { held_of result ≡ Some v }
 {
     match v {
         Val::Boolean(b) => boolean(b),
@@ -52,16 +53,16 @@ fn whole(x: u64) -> i32
 }
 
 // The value that waits.
-fn held(x: u64) -> Evaluated
+fn held(x: u64) -> Option<Val>
     ensures { result ≡ held_of x }
 {
     if x < FALSE {
-        return Evaluated::Known(Val::Integer(whole(x)));
+        return Some(Val::Integer(whole(x)));
     }
     match x {
-        FALSE => Evaluated::Known(Val::Boolean(false)),
-        TRUE => Evaluated::Known(Val::Boolean(true)),
-        _ => Evaluated::NoValue,
+        FALSE => Some(Val::Boolean(false)),
+        TRUE => Some(Val::Boolean(true)),
+        _ => None,
     }
 }
 
@@ -216,7 +217,7 @@ fn operation(w: u64, a: u64, b: u64) -> u64
 }
 
 fn truth(payload: u64) -> u64
-    ensures { held_of result ≡ cond (ltb payload 2) (Evaluated.Known (Val.Boolean (eqb payload 1))) Evaluated.NoValue }
+    ensures { held_of result ≡ cond (ltb payload 2) (Some (Val.Boolean (eqb payload 1))) None }
 {
     if payload < 2 {
         return boolean(payload == 1);
@@ -225,7 +226,7 @@ fn truth(payload: u64) -> u64
 }
 
 fn number(payload: u64) -> u64
-    ensures { held_of result ≡ cond (ltb payload 4294967296) (Evaluated.Known (Val.Integer (from_bits payload))) Evaluated.NoValue }
+    ensures { held_of result ≡ cond (ltb payload 4294967296) (Some (Val.Integer (from_bits payload))) None }
 {
     if payload < 4294967296 {
         return integer(bits::from_bits(payload as u32));
@@ -233,14 +234,47 @@ fn number(payload: u64) -> u64
     NONE
 }
 
-// The value of a variable, from its two words, if there is one of this number.
-fn variable(n: u64, kind: u64, payload: u64) -> u64
-    ensures { held_of result ≡ cond (ltb n 16) (Evaluated.Known (val_of kind payload)) Evaluated.NoValue }
-{
-    if n < 16 {
-        return of_value(slots::value_of(kind, payload));
+// What the variables of an expression hold, in words or by value.
+pub(crate) trait Variables {
+    ghost slots: { Self → List Slot };
+
+    ghost IsReadable: { Self → Type 0 };
+
+    // The value of the variable that a word names.
+    fn operand(&self, w: u64) -> u64
+        requires { IsReadable self.now }
+        ensures { held_of result ≡ cond (ltb (w / 256) 16) (Some (get_or (slots self.now) (slot_of w) blank).value) None };
+}
+
+// A kind and a payload each.
+impl Variables for &[u64] {
+    ghost slots = { λ vars. slots_of vars.now };
+
+    ghost IsReadable = { λ vars. length vars.now ≡ 32 };
+
+    #[tactic(auto, using(crate::proofs::HeldLaws::absent))]
+    fn operand(&self, w: u64) -> u64 {
+        if w / 256 < 16 {
+            let n = items::slot(w);
+            return of_value(slots::value_of(self[2 * n], self[2 * n + 1]));
+        }
+        NONE
     }
-    NONE
+}
+
+impl Variables for [Slot; 16] {
+    ghost slots = { λ vars. vars };
+
+    ghost IsReadable = { λ vars. length vars ≡ 16 };
+
+    #[tactic(auto, using(crate::proofs::HeldLaws::absent))]
+    fn operand(&self, w: u64) -> u64 {
+        if w / 256 < 16 {
+            let s = self[items::slot(w)];
+            return of_value(s.value);
+        }
+        NONE
+    }
 }
 
 // The constant that a word adds, whatever the variables hold: it is not the word of one.
@@ -272,121 +306,71 @@ fn no_value(items: &[u64], word: u64) -> Evaluation
     ensures { result ≡ no_value_of word items.now }
 {
     Evaluation {
-        value: Evaluated::NoValue,
+        value: None,
         rest: draws::rest(items, word),
     }
 }
 
-// The value of an expression over variables in words, a kind and a payload each. The array has a spare slot, which is read and
-// not used where an operation takes one operand.
+// The value of an expression. The array has a spare slot, which is read and not used where an operation takes one operand.
+fn evaluate_by<V: Variables>(items: &[u64], vars: &V, word: u64) -> Evaluation
+    requires { V.IsReadable vars.now }
+    ensures { result ≡ evaluation_of (V.slots vars.now) word items.now }
+{
+    let mut stack = [0; 17];
+    let mut left = word;
+    let mut depth: usize = 0;
+    for &w in items {
+        if operates(w) {
+            let takes = items::takes(w);
+            if depth < takes {
+                return no_value(items, word);
+            }
+            let base = depth - takes;
+            let a = stack[base];
+            let b = stack[base + 1];
+            let v = operation(w, a, b);
+            stack[base] = v;
+            depth = base + 1;
+            continue;
+        }
+        if 16 <= depth {
+            return no_value(items, word);
+        }
+        if w % 256 == items::VARIABLE {
+            stack[depth] = vars.operand(w);
+            depth += 1;
+            continue;
+        }
+        if w == items::DRAW {
+            stack[depth] = boolean(left % 2 == 1);
+            left = left / 2;
+            depth += 1;
+            continue;
+        }
+        stack[depth] = constant(w);
+        depth += 1;
+    }
+    if depth != 1 {
+        return no_value(items, word);
+    }
+    let last = stack[0];
+    Evaluation {
+        value: held(last),
+        rest: left,
+    }
+}
+
+// Over variables in words, a kind and a payload each.
 pub fn evaluate_on(items: &[u64], vars: &[u64], word: u64) -> Evaluation
     requires { length vars.now ≡ 32 }
     ensures { result ≡ evaluation_of (slots_of vars.now) word items.now }
 {
-    let mut stack = [0; 17];
-    let mut left = word;
-    let mut depth: usize = 0;
-    for at in 0..items.len() {
-        let w = items[at];
-        if operates(w) {
-            let takes = items::takes(w);
-            if depth < takes {
-                return no_value(items, word);
-            }
-            let base = depth - takes;
-            let a = stack[base];
-            let b = stack[base + 1];
-            let v = operation(w, a, b);
-            stack[base] = v;
-            depth = base + 1;
-            continue;
-        }
-        if 16 <= depth {
-            return no_value(items, word);
-        }
-        if w % 256 == items::VARIABLE {
-            let n = items::slot(w);
-            stack[depth] = variable(w / 256, vars[2 * n], vars[2 * n + 1]);
-            depth += 1;
-            continue;
-        }
-        if w == items::DRAW {
-            stack[depth] = boolean(left % 2 == 1);
-            left = left / 2;
-            depth += 1;
-            continue;
-        }
-        stack[depth] = constant(w);
-        depth += 1;
-    }
-    if depth != 1 {
-        return no_value(items, word);
-    }
-    let last = stack[0];
-    Evaluation {
-        value: held(last),
-        rest: left,
-    }
+    evaluate_by(items, &vars, word)
 }
 
-// The value x of a variable, if there is one of this number.
-fn variable_over(n: u64, x: Val) -> u64
-    ensures { held_of result ≡ cond (ltb n 16) (Evaluated.Known x) Evaluated.NoValue }
-{
-    if n < 16 {
-        return of_value(x);
-    }
-    NONE
-}
-
-// The value of an expression on variables by value: the loop of `evaluate_on`, without their words.
+// Over variables by value.
 pub fn evaluate_over(items: &[u64], vars: [Slot; 16], word: u64) -> Evaluation
     ensures { result ≡ evaluation_of vars word items.now }
 {
-    let mut stack = [0; 17];
-    let mut left = word;
-    let mut depth: usize = 0;
-    for at in 0..items.len() {
-        let w = items[at];
-        if operates(w) {
-            let takes = items::takes(w);
-            if depth < takes {
-                return no_value(items, word);
-            }
-            let base = depth - takes;
-            let a = stack[base];
-            let b = stack[base + 1];
-            let v = operation(w, a, b);
-            stack[base] = v;
-            depth = base + 1;
-            continue;
-        }
-        if 16 <= depth {
-            return no_value(items, word);
-        }
-        if w % 256 == items::VARIABLE {
-            let n = items::slot(w);
-            let s = vars[n];
-            let x = s.value;
-            stack[depth] = variable_over(w / 256, x);
-            depth += 1;
-            continue;
-        }
-        if w == items::DRAW {
-            stack[depth] = boolean(left % 2 == 1);
-            left = left / 2;
-            depth += 1;
-            continue;
-        }
-        stack[depth] = constant(w);
-        depth += 1;
-    }
-    if depth != 1 {
-        return no_value(items, word);
-    }
-    let last = stack[0];
-    Evaluation {
-        value: held(last),
-        rest: left,
-    }
+    evaluate_by(items, &vars, word)
 }

@@ -1,49 +1,13 @@
-use Prim.Native.Nat.{◌<◌}
-use mathlib.Core.Path.{sym, ◌∙◌}
-use mathlib.Core.Bool.{true}
-use native.Mathlib.Omega.{arith}
-use borrow.Author.Rules.{rules}
-use Rattle.graph_tables.specs.Sizes.{word32}
+use Rattle.std.proofs.Common.{arith, sym, true}
 use Rattle.graph_checks.proofs.ReadyParts.{action_ready}
-use Rattle.graph_builder.specs.Building.{new_action_of}
-use Rattle.graph_builder.proofs.BuildingLaws.{parts, words_of, placed_refused, placed_accepted}
+use Rattle.graph_builder.proofs.BuildingLaws.{words_of}
 use Rattle.graph_builder.proofs.new_action.Goals as goal
 
-pub returns-in-Refused : goal.returns-in-Refused
-unfolding new_action_of
-returns-in-Refused c =
-    let l = c in
-    let k = c.before in
-    parts (placed_refused k.args.t.now _ _ (sym k.action_check-check.ensures ∙ l.in-Refused.is))
-
 pub action_count-n-requires : goal.action_count-n-requires
-action_count-n-requires c =
-    let e = c in
-    let k = c.before.before in
-    words_of _ true (action_ready _ (sym c.action_check-check.ensures ∙ c.in_default.is)).0
+action_count-n-requires c = words_of _ true (action_ready _ (sym c.in_ok-action_check.ensures)).0
 
 pub put_action-requires : goal.put_action-requires
-put_action-requires c =
-    let e = c.before.before in
-    let k = c.before.before.before.before in
-    let r = action_ready _ (sym c.action_check-check.ensures ∙ c.in_default.is) in
-    (words_of _ true r.0, r.1)
-
-pub returns : goal.returns
-unfolding new_action_of
-returns c =
-    let p = c.before.before in
-    let n = c.before.before.before.before in
-    let e = c.before.before.before.before.before in
-    let k = c.before.before.before.before.before.before.before in
-    parts (placed_accepted k.args.t.now (sym c.action_check-check.ensures ∙ c.in_default.is)
-    n.action_count-n.ensures p.put_action.ensures)
+put_action-requires c = let r = action_ready _ (sym c.in_ok-action_check.ensures) in (words_of _ true r.0, r.1)
 
 pub overflow_cast-result : goal.overflow_cast-result
-overflow_cast-result c =
-    let n = c.before.before.before.before in
-    let e = c.before.before.before.before.before in
-    let k = c.before.before.before.before.before.before.before in
-    let r = action_ready _ (sym c.action_check-check.ensures ∙ c.in_default.is) in
-    let small : n.action_count-n.result < word32 = omega (arith, n.action_count-n.ensures, r.1) in
-    search (rules, small)
+overflow_cast-result c = let r = action_ready _ (sym c.in_ok-action_check.ensures) in omega (arith, c.action_count-n.ensures, r.1)

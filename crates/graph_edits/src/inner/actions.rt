@@ -50,6 +50,7 @@ pub fn put_reset(t: &mut [u64], a: usize, clock: usize)
 }
 
 // The items of expression e of an action.
+#[tactic(auto, unfolding(crate::specs::Edits::with_expression))]
 fn put_expression(t: &mut [u64], a: usize, e: usize, items: &[u64])
     requires { Words t.old × (a < action_room) × (e < effect_room) × (length items.now ≤ item_room) }
     ensures { t.new ≡ with_expression t.old a e items.now }
@@ -73,18 +74,15 @@ pub fn put_effect(t: &mut [u64], a: usize, v: usize, items: &[u64])
 pub fn choose<'a>(w: &'a [u64], x: &'a [u64], y: &'a [u64], z: &'a [u64], i: usize) -> &'a [u64]
     ensures { result.now ≡ chosen w.now x.now y.now z.now i }
 {
-    if i == 0 {
-        return w;
+    match i {
+        0 => w,
+        1 => x,
+        2 => y,
+        _ => z,
     }
-    if i == 1 {
-        return x;
-    }
-    if i == 2 {
-        return y;
-    }
-    z
 }
 
+#[tactic(auto, unfolding(crate::specs::Edits::with_expressions))]
 fn put_expressions<'a>(
     t: &mut [u64],
     a: usize,
@@ -99,12 +97,14 @@ fn put_expressions<'a>(
     ensures { t.new
         ≡ with_expressions t.old a (chosen w.now x.now y.now z.now) count }
 {
+    // By its number: the calls are handed four slices and a count.
     for e in 0..count {
         put_expression(t, a, e, choose(w, x, y, z, e));
     }
 }
 
 // A send of the first count expressions.
+#[tactic(auto, using(crate::proofs::ActionLaws::expressions_kept))]
 pub fn put_send<'a>(
     t: &mut [u64],
     w: &'a [u64],
@@ -123,17 +123,18 @@ pub fn put_send<'a>(
     put_action(t, layout::SEND, count);
 }
 
+#[tactic(auto, unfolding(crate::specs::Edits::with_targets))]
 fn put_targets(t: &mut [u64], a: usize, handed: Vars)
     requires { Words t.old × (a < action_room) × (handed.count ≤ message_room) }
     ensures { t.new ≡ with_targets t.old a handed handed.count }
 {
-    for e in 0..handed.count {
-        let var = handed.vars[e];
+    for (e, var) in handed.vars[..handed.count].iter().enumerate() {
         writers::set_effect_var(t, a, e, var.0 as usize);
     }
 }
 
 // A receive into the handed variables.
+#[tactic(auto, using(crate::proofs::ActionLaws::targets_actions))]
 pub fn put_receive(t: &mut [u64], handed: Vars)
     requires { Words t.old × (action_count t.old < action_room) × (handed.count ≤ message_room) }
     ensures { t.new ≡ with_receive t.old handed }

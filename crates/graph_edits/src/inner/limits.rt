@@ -19,6 +19,7 @@ fn limit_place(t: &[u64], g: usize, n: usize, clock: u64) -> usize
 }
 
 // A limit more in a group that has n.
+#[tactic(auto, unfolding(crate::specs::Edits::with_limit))]
 fn put_limit(t: &mut [u64], g: usize, n: usize, clock: u32, range: TimeRange)
     requires { Words t.old × (g < group_room) × (n < limit_room) }
     ensures { t.new ≡ with_limit t.old g n clock range }
@@ -40,12 +41,12 @@ fn put_limit(t: &mut [u64], g: usize, n: usize, clock: u32, range: TimeRange)
 }
 
 // The handed limits in an empty group.
+#[tactic(auto, unfolding(crate::specs::Edits::with_limits))]
 pub(crate) fn put_limits(t: &mut [u64], g: usize, handed: Limits)
     requires { Words t.old × (g < group_room) × (handed.count ≤ limit_room) }
     ensures { t.new ≡ with_limits t.old g handed handed.count }
 {
-    for n in 0..handed.count {
-        let limit = handed.limits[n];
+    for (n, limit) in handed.limits[..handed.count].iter().enumerate() {
         put_limit(t, g, n, limit.clock.0, limit.range);
     }
 }

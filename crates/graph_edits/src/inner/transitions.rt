@@ -23,6 +23,7 @@ fn transition_place(t: &[u64], n: usize, key: u64) -> usize
     )
 }
 
+#[tactic(auto, unfolding(crate::specs::Edits::with_row))]
 fn put_row(t: &mut [u64], p: usize, n: usize, key: u64, items: usize, limits: usize)
     requires { Words t.old × (p ≤ n) × (n < transition_room) }
     ensures { t.new ≡ with_row t.old p n key items limits }
@@ -38,6 +39,7 @@ fn put_row(t: &mut [u64], p: usize, n: usize, key: u64, items: usize, limits: us
     writers::set_limit_count(t, p, limits);
 }
 
+#[tactic(auto, unfolding(crate::specs::Edits::with_group))]
 fn put_group(t: &mut [u64], p: usize, n: usize, handed: Limits)
     requires { Words t.old × (p ≤ n) × (n < transition_room) × (handed.count ≤ limit_room) }
     ensures { t.new ≡ with_group t.old p n handed }
@@ -51,6 +53,7 @@ fn put_group(t: &mut [u64], p: usize, n: usize, handed: Limits)
     limits::put_limits(t, p, handed);
 }
 
+#[tactic(auto, unfolding(crate::specs::Edits::with_guard))]
 fn put_guard(t: &mut [u64], p: usize, n: usize, guard: &[u64])
     requires { Words t.old × (p ≤ n) × (n < transition_room) × (length guard.now ≤ item_room) }
     ensures { t.new ≡ with_guard t.old p n guard.now }
@@ -65,6 +68,7 @@ fn put_guard(t: &mut [u64], p: usize, n: usize, guard: &[u64])
 }
 
 // Row, limits and guard p of n.
+#[tactic(auto, unfolding(crate::specs::Edits::transition_at))]
 fn put_parts(t: &mut [u64], p: usize, n: usize, key: u64, guard: &[u64], handed: Limits)
     requires { Words t.old × (p ≤ n) × (n < transition_room) × (length guard.now ≤ item_room) × (handed.count ≤ limit_room) }
     ensures { t.new ≡ transition_at t.old p n key guard.now handed }

@@ -10,6 +10,7 @@ use crate::{inner, layout};
 use grammar::typing;
 use grammar::typing::Typed;
 
+#[tactic(auto, unfolding(crate::specs::Messages::is_plain))]
 pub fn is_plain(t: &[u64], a: usize) -> bool
     requires { Sound t.now × (a < action_count t.now) }
     ensures { result ≡ is_plain t.now a }
@@ -17,6 +18,7 @@ pub fn is_plain(t: &[u64], a: usize) -> bool
     inner::action_kind(t, a) == layout::PLAIN
 }
 
+#[tactic(auto, unfolding(crate::specs::Messages::is_send))]
 pub fn is_send(t: &[u64], a: usize) -> bool
     requires { Sound t.now × (a < action_count t.now) }
     ensures { result ≡ is_send t.now a }
@@ -24,6 +26,7 @@ pub fn is_send(t: &[u64], a: usize) -> bool
     inner::action_kind(t, a) == layout::SEND
 }
 
+#[tactic(auto, unfolding(crate::specs::Messages::is_receive))]
 pub fn is_receive(t: &[u64], a: usize) -> bool
     requires { Sound t.now × (a < action_count t.now) }
     ensures { result ≡ is_receive t.now a }
@@ -31,6 +34,7 @@ pub fn is_receive(t: &[u64], a: usize) -> bool
     inner::action_kind(t, a) == layout::RECEIVE
 }
 
+#[tactic(auto, unfolding(crate::specs::Messages::message_count))]
 pub fn message_count(t: &[u64], a: usize) -> usize
     requires { Sound t.now × (a < action_count t.now) }
     ensures { result ≡ message_count t.now a }
@@ -51,6 +55,7 @@ fn typed_word(typed: Typed) -> u64
 }
 
 // The kind of the expression of a value.
+#[tactic(auto, using(crate::proofs::MessageLaws::value_room, crate::proofs::MessageLaws::value_short))]
 fn sent_kind(t: &[u64], a: usize, e: usize) -> u64
     requires { Sound t.now × (a < action_count t.now) × (is_receive t.now a ≡ false) × (e < message_count t.now a) }
     ensures { result ≡ typed_word (type_of (kinds_of t.now) (effect_items t.now a e)) }
@@ -58,6 +63,7 @@ fn sent_kind(t: &[u64], a: usize, e: usize) -> u64
     typed_word(typing::type_of(inner::effect_items(t, a, e), inner::kinds_of(t)))
 }
 
+#[tactic(auto, using(crate::proofs::MessageLaws::value_room, crate::proofs::MessageLaws::value_var), unfolding(crate::specs::Messages::value_kind))]
 pub fn value_kind(t: &[u64], a: usize, e: usize) -> u64
     requires { Sound t.now × (a < action_count t.now) × (e < message_count t.now a) }
     ensures { result ≡ value_kind t.now a e }

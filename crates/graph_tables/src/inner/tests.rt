@@ -11,6 +11,7 @@ use crate::inner;
 use grammar::draws;
 
 // Whether a limit of a group contains time 0, and whether all of them do.
+#[tactic(auto, unfolding(crate::specs::Formed::zero_inside))]
 pub fn zero_inside(t: &[u64], g: usize, i: usize) -> bool
     requires { Words t.now × (g < group_room) × (i < limit_room) × BoundsFit t.now g i }
     ensures { result ≡ zero_inside t.now g i }
@@ -22,12 +23,7 @@ pub fn all_zero_inside(t: &[u64], g: usize, n: usize) -> bool
     requires { Words t.now × (g < group_room) × (n ≤ limit_room) × ((i : ℕ) → i < n → BoundsFit t.now g i) }
     ensures { result ≡ all_below n (zero_inside t.now g) }
 {
-    for i in 0..n {
-        if !zero_inside(t, g, i) {
-            return false;
-        }
-    }
-    true
+    (0..n).all(|i| zero_inside(t, g, i))
 }
 
 pub fn effect_draws(t: &[u64], a: usize, e: usize) -> usize
@@ -42,14 +38,11 @@ pub fn all_draws(t: &[u64], a: usize, n: usize) -> usize
     requires { Words t.now × (a < action_room) × (n ≤ effect_room) × ((e : ℕ) → e < n → effect_length t.now a e ≤ item_room) }
     ensures { result ≡ sum_below n (effect_draws t.now a) }
 {
-    let mut sum: usize = 0;
-    for e in 0..n {
-        sum += effect_draws(t, a, e);
-    }
-    sum
+    (0..n).map(|e| effect_draws(t, a, e)).sum()
 }
 
 // Whether there is such an action, or it is the reserved one.
+#[tactic(auto, unfolding(crate::specs::Formed::action_known))]
 pub fn action_known(t: &[u64], a: u32) -> bool
     requires { Words t.now }
     ensures { result ≡ action_known t.now a }

@@ -29,12 +29,7 @@ fn vars_fit(t: &[u64], vars: [Slot; sizes::VARIABLES], n: usize) -> bool
     requires { Sound t.now × (n ≤ variable_room) }
     ensures { result ≡ all_below n (var_fits t.now vars) }
 {
-    for v in 0..n {
-        if !var_fits(t, vars, v) {
-            return false;
-        }
-    }
-    true
+    (0..n).all(|v| var_fits(t, vars, v))
 }
 
 fn places_known(t: &[u64], places: [u32; sizes::PROCESSES], n: usize) -> bool
@@ -42,12 +37,7 @@ fn places_known(t: &[u64], places: [u32; sizes::PROCESSES], n: usize) -> bool
     ensures { result ≡ all_below n (place_known t.now places) }
 {
     let locations = inner::location_count(t);
-    for p in 0..n {
-        if locations <= places[p] as usize {
-            return false;
-        }
-    }
-    true
+    (0..n).all(|p| (places[p] as usize) < locations)
 }
 
 fn counts_same(t: &[u64], run: ProgramGraphRun) -> bool
@@ -85,12 +75,7 @@ fn words_known(t: &[u64], places: &[u64], n: usize) -> bool
     ensures { result ≡ all_below n (place_known t.now places.now) }
 {
     let locations = inner::location_count(t);
-    for p in 0..n {
-        if locations <= places[p] as usize {
-            return false;
-        }
-    }
-    true
+    (0..n).all(|p| (places[p] as usize) < locations)
 }
 
 // The words of variable v are those of a value of its kind.
@@ -110,12 +95,7 @@ fn vars_words_fit(t: &[u64], ws: &[u64], n: usize) -> bool
     requires { Sound t.now × (length ws.now ≡ 2 * variable_room) × (n ≤ variable_room) }
     ensures { result ≡ all_below n (var_words_fit t.now ws.now) }
 {
-    for v in 0..n {
-        if !var_words_fit(t, ws, v) {
-            return false;
-        }
-    }
-    true
+    (0..n).all(|v| var_words_fit(t, ws, v))
 }
 
 // The parts of a run's words.

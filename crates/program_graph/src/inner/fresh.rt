@@ -1,4 +1,4 @@
-// A fresh run of a graph.
+// A fresh run of a graph. The loops below go by number, since calls read what they put from the table (`place_at(t, p)`).
 ghost use Rattle.std.specs.Prelude.{◌≡◌, ◌<◌};
 ghost use Rattle.graph_tables.specs.Words.{variable_count, process_count};
 ghost use Rattle.graph_tables.specs.Sound.{Sound};

@@ -5,22 +5,22 @@ ghost use Rattle.run_steps.specs.Listing.{seek};
 ghost use Rattle.program_graph.specs.Transitions.{listed, listed_by, entry_or_end};
 ghost use Rattle.program_graph.specs.Inner.{run_at, RunOf};
 
-use crate::answers::Listed;
+use graph_tables::answers::{Answer, Entry};
 use graph_tables::runs;
 use run_steps::inner::listing;
 use run_steps::inner::listing::Sought;
 
-pub fn entry_or_end(sought: Sought) -> Listed
+pub fn entry_or_end(sought: Sought) -> Answer<Option<Entry>>
     ensures { result ≡ entry_or_end sought }
 {
     match sought {
-        Sought::Found(entry) => Listed::At(entry),
-        Sought::Left(_) => Listed::End,
+        Sought::Found(entry) => Ok(Some(entry)),
+        Sought::Left(_) => Ok(None),
     }
 }
 
 // Entry k of the whole list.
-pub fn listed_on(t: &[u64], r: &[u64], k: usize) -> Listed
+pub fn listed_on(t: &[u64], r: &[u64], k: usize) -> Answer<Option<Entry>>
     requires { Sound t.now × RunOf t.now r.now }
     ensures { result ≡ entry_or_end (seek (listed t.now (run_at r.now)) k) }
 {

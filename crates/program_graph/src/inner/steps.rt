@@ -8,9 +8,9 @@ ghost use Rattle.graph_tables.specs.Sound.{Sound};
 ghost use Rattle.run_steps.specs.Steps.{ready_of, clocks_after, effected_of, placed_below};
 ghost use Rattle.run_steps.specs.Inner.{VarsLeft};
 ghost use Rattle.program_graph.specs.Running.{ready_still, autonomous_of, plain_of, acted_of, step_of};
-ghost use Rattle.program_graph.specs.Inner.{run_at, RunOf, Parts, Effects, DidStep};
+ghost use Rattle.program_graph.specs.Inner.{run_at, RunOf, Parts, Effects, DidCall};
 
-use graph_tables::answers::Done;
+use graph_tables::answers::Answer;
 use graph_tables::ids::Action;
 use graph_tables::refusals::Refusal;
 use graph_tables::{inner, layout, runs, sizes};
@@ -103,64 +103,64 @@ fn run_effects(t: &[u64], r: &mut [u64], a: usize, word: u64) -> bool
 }
 
 // A step by the reserved action.
-fn autonomous(t: &[u64], r: &mut [u64], posts: &[u32]) -> Done
+fn autonomous(t: &[u64], r: &mut [u64], posts: &[u32]) -> Answer<()>
     requires { Sound t.now × RunOf t.now r.old × (length posts.now ≡ run_processes r.old) }
-    ensures { DidStep t.now r.old result r.new (autonomous_of t.now (run_at r.old)
+    ensures { DidCall t.now r.old result r.new (autonomous_of t.now (run_at r.old)
         posts.now) }
 {
     if !ready_still(t, r, Action::EPSILON.0, posts) {
-        return Done::Refused(Refusal::UnsatisfiedGuard);
+        return Err(Refusal::UnsatisfiedGuard);
     }
     move_to(r, posts);
-    Done::Accepted
+    Ok(())
 }
 
 // A step by a plain action.
-fn plain(t: &[u64], r: &mut [u64], a: usize, posts: &[u32], word: u64) -> Done
+fn plain(t: &[u64], r: &mut [u64], a: usize, posts: &[u32], word: u64) -> Answer<()>
     requires { Sound t.now × RunOf t.now r.old × (length posts.now ≡ run_processes r.old) × (a < action_count t.now)
         × (action_kind t.now a ≡ plain_kind) }
-    ensures { DidStep t.now r.old result r.new (plain_of t.now (run_at r.old) a
+    ensures { DidCall t.now r.old result r.new (plain_of t.now (run_at r.old) a
         posts.now word) }
 {
     let mut after = [0; sizes::CLOCKS];
     times_after(t, a, r, &mut after);
     if !ready_on(t, r, &after, a as u32, posts) {
-        return Done::Refused(Refusal::UnsatisfiedGuard);
+        return Err(Refusal::UnsatisfiedGuard);
     }
     if !run_effects(t, r, a, word) {
-        return Done::Refused(Refusal::Overflow);
+        return Err(Refusal::Overflow);
     }
     set_times(r, &after);
     move_to(r, posts);
-    Done::Accepted
+    Ok(())
 }
 
-fn acted(t: &[u64], r: &mut [u64], action: u32, posts: &[u32], word: u64) -> Done
+fn acted(t: &[u64], r: &mut [u64], action: u32, posts: &[u32], word: u64) -> Answer<()>
     requires { Sound t.now × RunOf t.now r.old × (length posts.now ≡ run_processes r.old) }
-    ensures { DidStep t.now r.old result r.new (acted_of t.now (run_at r.old) action
+    ensures { DidCall t.now r.old result r.new (acted_of t.now (run_at r.old) action
         posts.now word) }
 {
     let a = action as usize;
     if inner::action_count(t) <= a {
-        return Done::Refused(Refusal::MissingAction);
+        return Err(Refusal::MissingAction);
     }
     if inner::action_kind(t, a) != layout::PLAIN {
-        return Done::Refused(Refusal::Communication);
+        return Err(Refusal::Communication);
     }
     plain(t, r, a, posts, word)
 }
 
 // A step on a table and a run that are known to fit.
-pub fn step(t: &[u64], r: &mut [u64], action: u32, posts: &[u32], word: u64) -> Done
+pub fn step(t: &[u64], r: &mut [u64], action: u32, posts: &[u32], word: u64) -> Answer<()>
     requires { Sound t.now × RunOf t.now r.old }
-    ensures { DidStep t.now r.old result r.new (step_of t.now (run_at r.old) action
+    ensures { DidCall t.now r.old result r.new (step_of t.now (run_at r.old) action
         posts.now word) }
 {
     if posts.len() as u64 != r[runs::PROCESSES] {
-        return Done::Refused(Refusal::MismatchingPostStates);
+        return Err(Refusal::MismatchingPostStates);
     }
     if !effects::posts_known(t, posts) {
-        return Done::Refused(Refusal::MissingLocation);
+        return Err(Refusal::MissingLocation);
     }
     if action == Action::EPSILON.0 {
         return autonomous(t, r, posts);

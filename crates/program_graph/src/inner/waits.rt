@@ -6,10 +6,10 @@ ghost use Rattle.graph_tables.specs.RunWords.{run_processes, run_clocks, places_
 ghost use Rattle.graph_tables.specs.Sound.{Sound};
 ghost use Rattle.run_steps.specs.Steps.{shifted_below, place_holds};
 ghost use Rattle.program_graph.specs.Running.{wait_fits, wait_holds, wait_open, waits_on, later, waited_of};
-ghost use Rattle.program_graph.specs.Inner.{run_at, RunOf, Leaves, DidWait};
+ghost use Rattle.program_graph.specs.Inner.{run_at, RunOf, Leaves, DidCall};
 
 use crate::inner::steps;
-use graph_tables::answers::Done;
+use graph_tables::answers::Answer;
 use graph_tables::refusals::Refusal;
 use graph_tables::{runs, sizes};
 use run_steps::inner::{copies, waiting, waits};
@@ -59,20 +59,20 @@ pub fn wait_holds(t: &[u64], r: &[u64], delta: u32) -> bool
 }
 
 // A wait on a table and a run that are known to fit.
-pub fn wait_on(t: &[u64], r: &mut [u64], delta: u32) -> Done
+pub fn wait_on(t: &[u64], r: &mut [u64], delta: u32) -> Answer<()>
     requires { Sound t.now × RunOf t.now r.old }
-    ensures { DidWait t.now r.old result r.new (waited_of t.now (run_at r.old) delta) }
+    ensures { DidCall t.now r.old result r.new (waited_of t.now (run_at r.old) delta) }
 {
     if !wait_fits(t, r, delta) {
-        return Done::Refused(Refusal::Overflow);
+        return Err(Refusal::Overflow);
     }
     let mut times = [0; sizes::CLOCKS];
     times_later(t, r, delta, &mut times);
     if !places_hold(t, r, &times) {
-        return Done::Refused(Refusal::Invariant);
+        return Err(Refusal::Invariant);
     }
     steps::set_times(r, &times);
-    Done::Accepted
+    Ok(())
 }
 
 // The clocks moved by a wait that fits: no other word is written.

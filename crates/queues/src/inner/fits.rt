@@ -35,11 +35,11 @@ fn slot_fits(q: &[u64], kinds: &[u64], i: usize) -> bool
     requires { Counted q.now × (i < stored_of q.now) × (0 < length kinds.now) }
     ensures { result ≡ slot_fits q.now kinds.now i }
 {
-    let kind = ring::kind_at(q, i);
+    let (kind, payload) = ring::words_at(q, i);
     if kind != kind_for(kinds, i) {
         return false;
     }
-    slots::is_value(kind, ring::payload_at(q, i))
+    slots::is_value(kind, payload)
 }
 
 // So are the first n.
@@ -47,12 +47,7 @@ fn slots_fit(q: &[u64], kinds: &[u64], n: usize) -> bool
     requires { Counted q.now × (n ≤ stored_of q.now) × (0 < n → 0 < length kinds.now) }
     ensures { result ≡ all_below n (slot_fits q.now kinds.now) }
 {
-    for i in 0..n {
-        if !slot_fits(q, kinds, i) {
-            return false;
-        }
-    }
-    true
+    (0..n).all(|i| slot_fits(q, kinds, i))
 }
 
 // Each count has 32 bits.

@@ -11,7 +11,6 @@ use crate::layout;
 use grammar::inner::slots;
 use grammar::values::{Slot, Val};
 use graph_tables::handed::Message;
-use graph_tables::sizes;
 
 fn read_count(q: &[u64]) -> u32
     requires { Counted q.now }
@@ -50,19 +49,13 @@ fn count_at(q: &[u64], i: usize) -> u32
     std::num::wrapping_add_u32(read_count(q), i as u32)
 }
 
-// The two words of stored value i.
-pub(crate) fn kind_at(q: &[u64], i: usize) -> u64
+// The two words of stored value i, its kind and its payload.
+pub(crate) fn words_at(q: &[u64], i: usize) -> (u64, u64)
     requires { Counted q.now × (i < stored_of q.now) }
-    ensures { result ≡ kind_word_at q.now i }
+    ensures { (result.0 ≡ kind_word_at q.now i) × (result.1 ≡ payload_word_at q.now i) }
 {
-    q[layout::PAIR * pair(count_at(q, i))]
-}
-
-pub(crate) fn payload_at(q: &[u64], i: usize) -> u64
-    requires { Counted q.now × (i < stored_of q.now) }
-    ensures { result ≡ payload_word_at q.now i }
-{
-    q[layout::PAIR * pair(count_at(q, i)) + 1]
+    let at = layout::PAIR * pair(count_at(q, i));
+    (q[at], q[at + 1])
 }
 
 // Stored value i, from the oldest on.
@@ -70,7 +63,8 @@ pub fn value_at(q: &[u64], i: usize) -> Val
     requires { Counted q.now × (i < stored_of q.now) }
     ensures { result ≡ (slice_index_or (queue_of q.now) i blank).value }
 {
-    slots::value_of(kind_at(q, i), payload_at(q, i))
+    let (kind, payload) = words_at(q, i);
+    slots::value_of(kind, payload)
 }
 
 // One value behind the newest.
@@ -113,11 +107,8 @@ pub fn push_all(q: &mut [u64], message: Message)
     requires { Counted q.old × (message.count ≤ message_room) }
     ensures { (q.new ≡ pushed_all q.old message) × FitMessage message }
 {
-    let values = message.values;
-    for k in 0..slots_for(message.count) {
-        let slot = values[k];
-        let x = slot.value;
-        push(q, x);
+    for slot in &message.values[..slots_for(message.count)] {
+        push(q, slot.value);
     }
 }
 
@@ -126,15 +117,14 @@ pub fn first_values(q: &[u64], width: usize) -> Message
     requires { Counted q.now × (width ≤ message_room) × (slots_for width ≤ stored_of q.now) }
     ensures { result ≡ first_of q.now width }
 {
-    let blank = Slot {
-        value: Val::Boolean(false),
-    };
-    let mut values = [blank; sizes::MESSAGE];
-    for k in 0..slots_for(width) {
-        values[k] = Slot {
-            value: value_at(q, k),
-        };
-    }
+    let slots = slots_for(width);
+    let values = std::array::from_fn(|k| Slot {
+        value: if k < slots {
+            value_at(q, k)
+        } else {
+            Val::Boolean(false)
+        },
+    });
     Message {
         values,
         count: width,

@@ -7,10 +7,9 @@ pub fn number(bytes: &[u8], at: usize, n: usize) -> u64
     requires { (at + n ≤ length bytes.now) × (n ≤ 8) }
     ensures { (result ≡ number_at bytes.now at n) × (result < byte ^ n) }
 {
+    // `from_le_bytes` takes one width, and this serves widths 2, 4 and 8: no plainer.
     let mut x: u64 = 0;
-    let mut k = n;
-    while 0 < k {
-        k -= 1;
+    for k in (0..n).rev() {
         let b = bytes[at + k] as u64;
         x = x * 256 + b;
     }
@@ -22,10 +21,5 @@ pub fn zeros(bytes: &[u8], at: usize, n: usize) -> bool
     requires { at + n ≤ length bytes.now }
     ensures { result ≡ zeros_at bytes.now at n }
 {
-    for i in 0..n {
-        if bytes[at + i] != 0 {
-            return false;
-        }
-    }
-    true
+    bytes[at..at + n].iter().all(|b| *b == 0)
 }

@@ -13,9 +13,10 @@ pub fn put_number(bytes: &mut [u8], at: usize, n: usize, x: u64)
     requires { at + n ≤ length bytes.old }
     ensures { bytes.new ≡ sets bytes.old at (bytes_of n x) }
 {
+    // `to_le_bytes` would ask that n be at most 8, and this asks nothing of n (what may not change).
     let mut rest = x;
-    for k in 0..n {
-        bytes[at + k] = (rest % 256) as u8;
+    for b in &mut bytes[at..at + n] {
+        *b = (rest % 256) as u8;
         rest /= 256;
     }
 }
@@ -25,9 +26,7 @@ pub fn put_zeros(bytes: &mut [u8], at: usize, n: usize)
     requires { at + n ≤ length bytes.old }
     ensures { bytes.new ≡ sets bytes.old at (replicate n 0) }
 {
-    for k in 0..n {
-        bytes[at + k] = 0;
-    }
+    bytes[at..at + n].fill(0);
 }
 
 // ---- A record.
@@ -64,6 +63,7 @@ pub fn put_posts(bytes: &mut [u8], at: usize, posts: &[u16])
     requires { at + posts_bytes ≤ length bytes.old }
     ensures { bytes.new ≡ sets bytes.old at (posts_of posts.now) }
 {
+    // The places are four however many posts there are, so a loop over the posts would be no plainer.
     for j in 0..layout::POSTS {
         put_post(bytes, at + layout::POST_BYTES * j, posts, j);
     }

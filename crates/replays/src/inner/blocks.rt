@@ -6,13 +6,20 @@ ghost use Rattle.recordings.specs.Blocks.{count_in, entries_of, good_slot, block
 ghost use Rattle.replays.specs.Facts.{Ready};
 ghost use Rattle.replays.specs.Replay.{records_played, block_played, all_played};
 
-use crate::answers::{Difference, Replayed};
-use crate::inner::{calls, numbers};
+use crate::answers::{Difference, ReplayError};
+use crate::inner::calls;
 use recordings::inner::records;
 use recordings::{blocks, layout};
 
-// The records of a good block, up to the first that answers otherwise. So many went before.
-fn play_records(t: &[u64], s: &mut [u64], block: &[u8], b: u64, done: u64) -> Replayed
+// The records of a good block, up to the first that answers otherwise. So many went before. A difference tells its place, so they are
+// counted.
+fn play_records(
+    t: &[u64],
+    s: &mut [u64],
+    block: &[u8],
+    b: u64,
+    done: u64,
+) -> Result<u64, ReplayError>
     requires { Ready t.now s.old × (length block.now ≡ block_bytes) × (count_in block.now ≤ record_room)
         × (all_below record_room (good_slot block.now) ≡ true) × (done ≤ record_room * b) × (b < 36028797018963968) }
     ensures { (result ≡ (records_played t.now s.old b 0 done (entries_of block.now)).answer)
@@ -24,48 +31,50 @@ fn play_records(t: &[u64], s: &mut [u64], block: &[u8], b: u64, done: u64) -> Re
         let recorded = r[layout::ANSWER] as u32;
         let given = calls::make_call(t, s, r);
         if given != recorded {
-            return Replayed::Differs(Difference {
+            return Err(ReplayError::Differs(Difference {
                 block: b,
                 entry: i as u64,
                 recorded,
                 given,
-            });
+            }));
         }
     }
-    Replayed::Finished(done + n as u64)
+    Ok(done + n as u64)
 }
 
 // Block b, tested whole before any of its records is stepped.
-fn play_block(t: &[u64], s: &mut [u64], bytes: &[u8], b: usize, done: u64) -> Replayed
+fn play_block(
+    t: &[u64],
+    s: &mut [u64],
+    bytes: &[u8],
+    b: usize,
+    done: u64,
+) -> Result<u64, ReplayError>
     requires { Ready t.now s.old × (b < blocks_in (length bytes.now)) × (done ≤ record_room * b) }
     ensures { (result ≡ (block_played t.now s.old bytes.now b done).answer)
         × (s.new ≡ (block_played t.now s.old bytes.now b done).state) }
 {
     let a = layout::BLOCK * b;
     if bytes.len() - a < layout::BLOCK {
-        return Replayed::BadBlock(b as u64);
+        return Err(ReplayError::BadBlock(b as u64));
     }
     let e = a + layout::BLOCK;
     let block = &bytes[a..e];
     if !blocks::good_block(block, b as u64, bytes.len() <= e) {
-        return Replayed::BadBlock(b as u64);
+        return Err(ReplayError::BadBlock(b as u64));
     }
     play_records(t, s, block, b as u64, done)
 }
 
 // All blocks, up to the first finding.
-pub fn play(t: &[u64], s: &mut [u64], bytes: &[u8]) -> Replayed
+pub fn play(t: &[u64], s: &mut [u64], bytes: &[u8]) -> Result<u64, ReplayError>
     requires { Ready t.now s.old }
     ensures { (result ≡ (all_played t.now s.old bytes.now).answer)
         × (s.new ≡ (all_played t.now s.old bytes.now).state) }
 {
     let mut done: u64 = 0;
     for b in 0..blocks::blocks_in(bytes.len()) {
-        let r = play_block(t, s, bytes, b, done);
-        if !numbers::is_finished(r) {
-            return r;
-        }
-        done = numbers::stepped_by(r);
+        done = play_block(t, s, bytes, b, done)?;
     }
-    Replayed::Finished(done)
+    Ok(done)
 }

@@ -15,7 +15,7 @@ use recordings::inner::records;
 use recordings::layout;
 use system_tables::ids::{Action, PgId};
 
-// The first n posts of a record, a word each: graph * 2^32 + location.
+// The first n posts of a record, a word each: graph * 2^32 + location. A record gives each by its number, so a chain is no plainer.
 fn post_words(r: &[u8], g: u8, n: usize, to: &mut [u64])
     requires { (length r.now ≡ record_bytes) × (n ≤ post_room) × (n ≤ length to.old) }
     ensures { (take n to.new ≡ post_words g (row (post_in r.now) 0 n))
@@ -45,16 +45,14 @@ fn make_step(t: &[u64], s: &mut [u64], r: &[u8]) -> u32
     let pg = g as u32;
     let a = records::amount(r);
     let word = records::word(r);
-    let told = steps::step(
+    numbers::answer_number(steps::step(
         t,
         s,
         PgId(pg),
         Action(PgId(pg), ids::Action(a)),
         &posts[0..n],
         word,
-    );
-    let answer = told.answer;
-    numbers::done_number(answer)
+    ))
 }
 
 // A wait.

@@ -1,53 +1,27 @@
-// The number of an answer: 0 for ok; and what a replay's says.
+// The number of an answer: 0 for ok.
 ghost use Rattle.std.specs.Prelude.{◌≡◌};
-ghost use Rattle.graph_tables.specs.Answers.{done_number};
+ghost use Rattle.graph_tables.specs.Answers.{answer_number};
 ghost use Rattle.channel_system.specs.Told.{waited_number};
-ghost use Rattle.replays.specs.Replay.{is_finished, stepped_by};
 
-use crate::answers::Replayed;
-use channel_system::answers::Waited;
-use graph_tables::answers::Done;
+use channel_system::answers::WaitError;
+use graph_tables::answers::Answer;
 
-pub fn done_number(d: Done) -> u32
-    ensures { result ≡ done_number d }
+pub fn answer_number<T: Copy>(d: Answer<T>) -> u32
+    ensures { result ≡ answer_number d }
 {
     match d {
-        Done::Accepted => 0,
-        Done::Refused(r) => r.number(),
+        Ok(_) => 0,
+        Err(r) => r.number(),
     }
 }
 
 // Which graph objects is not told.
-pub fn waited_number(w: Waited) -> u32
+pub fn waited_number(w: Result<(), WaitError>) -> u32
     ensures { result ≡ waited_number w }
 {
     match w {
-        Waited::Accepted => 0,
-        Waited::Invariant(_) => 9,
-        Waited::Refused(r) => r.number(),
-    }
-}
-
-// Whether a replay finished.
-pub fn is_finished(r: Replayed) -> bool
-    ensures { result ≡ is_finished r }
-{
-    match r {
-        Replayed::Finished(_) => true,
-        Replayed::BadBlock(_) => false,
-        Replayed::Differs(_) => false,
-        Replayed::Refused(_) => false,
-    }
-}
-
-// How many records it stepped then.
-pub fn stepped_by(r: Replayed) -> u64
-    ensures { result ≡ stepped_by r }
-{
-    match r {
-        Replayed::Finished(n) => n,
-        Replayed::BadBlock(_) => 0,
-        Replayed::Differs(_) => 0,
-        Replayed::Refused(_) => 0,
+        Ok(()) => 0,
+        Err(WaitError::Invariant(_)) => 9,
+        Err(WaitError::Refused(r)) => r.number(),
     }
 }

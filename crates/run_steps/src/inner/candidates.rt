@@ -1,5 +1,6 @@
 // Candidates of a step, and whether every process has one that passes.
 ghost use Rattle.std.specs.Prelude.{◌≡◌, ℕ, ◌*◌, ◌≤◌, ◌<◌, length, get_or};
+ghost use Rattle.laws.specs.Below.{any_below};
 ghost use Rattle.grammar.specs.Evaluation.{evaluation_of};
 ghost use Rattle.grammar.specs.Slots.{slots_of};
 ghost use Rattle.graph_tables.specs.Sizes.{clock_room, variable_room};
@@ -9,7 +10,6 @@ ghost use Rattle.run_steps.specs.Steps.{satisfied, guard_holds, failing_of, pass
 
 use crate::failures;
 use crate::inner::limits;
-use grammar::evaluation::Evaluated;
 use grammar::inner::evaluation;
 use grammar::values::Val;
 use graph_tables::{inner, sizes};
@@ -21,7 +21,7 @@ fn is_satisfied(items: &[u64], vars: &[u64]) -> bool
 {
     let evaluation = evaluation::evaluate_on(items, vars, 0);
     let answer = evaluation.value;
-    let Evaluated::Known(value) = answer else {
+    let Some(value) = answer else {
         return false;
     };
     let Val::Boolean(holds) = value else {
@@ -82,8 +82,30 @@ fn leads(t: &[u64], vars: &[u64], clocks: &[u64], after: &[u64], key: u64, k: us
     passes(t, vars, clocks, after, k)
 }
 
-// Every process has a candidate that passes. The test stops at the first process without one; there is none to a post that has no place
-// in a key.
+// Some transition leads from a place by an action to a post. None does to a post that has no place in a key.
+fn can_lead(
+    t: &[u64],
+    vars: &[u64],
+    clocks: &[u64],
+    after: &[u64],
+    place: u64,
+    action: u32,
+    post: u32,
+) -> bool
+    requires { Sound t.now × (length vars.now ≡ 2 * variable_room) × (length clocks.now ≡ clock_room) × (length after.now ≡ clock_room)
+        × (place < location_count t.now) }
+    ensures { result
+        ≡ any_below (transition_count t.now)
+        (leads_of t.now (slots_of vars.now) clocks.now after.now place action post) }
+{
+    if sizes::LOCATIONS <= post as usize {
+        return false;
+    }
+    let key = inner::key_with(place, action, post as u64);
+    (0..inner::transition_count(t)).any(|k| leads(t, vars, clocks, after, key, k))
+}
+
+// Every process has a candidate that passes. The test stops at the first process without one.
 pub fn ready(
     t: &[u64],
     vars: &[u64],
@@ -99,21 +121,5 @@ pub fn ready(
         ≡ ready_of t.now (slots_of vars.now) clocks.now after.now places.now
         (length places.now) action posts.now }
 {
-    let count = inner::transition_count(t);
-    let mut all = true;
-    'processes: for p in 0..places.len() {
-        let post = posts[p] as usize;
-        if sizes::LOCATIONS <= post {
-            return false;
-        }
-        let key = inner::key_with(places[p], action, post as u64);
-        for k in 0..count {
-            if leads(t, vars, clocks, after, key, k) {
-                continue 'processes;
-            }
-        }
-        all = false;
-        break 'processes;
-    }
-    all
+    (0..places.len()).all(|p| can_lead(t, vars, clocks, after, places[p], action, posts[p]))
 }

@@ -1,4 +1,5 @@
-// What an action does to clocks and variables, and a step to places, each in place.
+// What an action does to clocks and variables, and a step to places, each in place. Resets and effects are gone through by their number,
+// since calls read them from the table (`reset_at(t, a, i)`) and no slice has them.
 ghost use Rattle.std.specs.Prelude.{◌≡◌, ◌*◌, ◌≤◌, ◌<◌, length};
 ghost use Rattle.laws.specs.Below.{all_below};
 ghost use Rattle.grammar.specs.Slots.{slots_of};
@@ -8,7 +9,6 @@ ghost use Rattle.graph_tables.specs.Sound.{Sound};
 ghost use Rattle.run_steps.specs.Steps.{is_kind, clocks_after, effected_of, placed_below, post_known};
 ghost use Rattle.run_steps.specs.Inner.{VarsLeft};
 
-use grammar::evaluation::Evaluated;
 use grammar::inner::{evaluation, slots};
 use graph_tables::inner;
 
@@ -45,7 +45,7 @@ pub fn run_effects(t: &[u64], a: usize, vars: &mut [u64], word: u64) -> bool
         let evaluation = evaluation::evaluate_on(inner::effect_items(t, a, e), vars, left);
         left = evaluation.rest;
         let answer = evaluation.value;
-        let Evaluated::Known(x) = answer else {
+        let Some(x) = answer else {
             return false;
         };
         slots::put(vars, inner::effect_var(t, a, e), x);
@@ -69,10 +69,5 @@ pub fn posts_known(t: &[u64], posts: &[u32]) -> bool
     ensures { result ≡ all_below (length posts.now) (post_known t.now posts.now) }
 {
     let locations = inner::location_count(t);
-    for p in 0..posts.len() {
-        if locations <= posts[p] as usize {
-            return false;
-        }
-    }
-    true
+    (0..posts.len()).all(|p| (posts[p] as usize) < locations)
 }

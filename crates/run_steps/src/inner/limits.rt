@@ -75,10 +75,5 @@ pub fn invariants_hold_later(t: &[u64], l: usize, clocks: &[u64], delta: u32) ->
     ensures { result ≡ invariants_hold t.now (shifted_below clocks.now delta (clock_count t.now)) l }
 {
     let g = inner::invariant_group(l);
-    for i in 0..inner::invariant_count(t, l) {
-        if !limit_holds_later(t, g, i, clocks, delta) {
-            return false;
-        }
-    }
-    true
+    (0..inner::invariant_count(t, l)).all(|i| limit_holds_later(t, g, i, clocks, delta))
 }

@@ -13,7 +13,8 @@ use graph_tables::answers::Entry;
 use graph_tables::ids::Action;
 use graph_tables::{inner, sizes};
 
-// An entry, or how many are to be passed over behind a list's end.
+// An entry, or how many are to be passed over behind a list's end. No Result: a list's end is no failure, and its number goes on to the
+// next list.
 #[derive(Clone, Copy)]
 pub enum Sought {
     Found(Entry),

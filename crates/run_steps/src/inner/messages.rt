@@ -7,13 +7,13 @@ ghost use Rattle.graph_tables.specs.Sound.{Sound};
 ghost use Rattle.run_steps.specs.Messages.{spoken_of, message_of, no_message, value_fits, message_fits, taken_of};
 ghost use Rattle.run_steps.specs.Inner.{VarsLeft};
 
-use grammar::evaluation::Evaluated;
 use grammar::inner::{evaluation, slots};
 use grammar::values::{Slot, Val};
 use graph_tables::handed::Message;
 use graph_tables::{inner, sizes};
 
-// The values of a send, what is left of the word, and whether each expression had a value.
+// The values of a send, what is left of the word, and whether each expression had a value. No Option: values and word are told
+// where one has none, too (`spoken_of`).
 #[derive(Clone, Copy)]
 pub struct Speech {
     pub values: [Slot; sizes::MESSAGE],
@@ -45,7 +45,7 @@ pub fn spoken(t: &[u64], a: usize, vars: &[u64], word: u64) -> Speech
         let evaluation = evaluation::evaluate_on(inner::effect_items(t, a, e), vars, left);
         left = evaluation.rest;
         let answer = evaluation.value;
-        let Evaluated::Known(x) = answer else {
+        let Some(x) = answer else {
             return Speech {
                 values,
                 word: left,
@@ -88,12 +88,7 @@ pub fn message_fits(t: &[u64], a: usize, message: Message) -> bool
     if message.count != n {
         return false;
     }
-    for e in 0..n {
-        if !value_fits(t, a, message, e) {
-            return false;
-        }
-    }
-    true
+    (0..n).all(|e| value_fits(t, a, message, e))
 }
 
 // The variables take a message's values: where one stands twice, the later value stays.

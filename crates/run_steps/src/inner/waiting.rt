@@ -32,24 +32,14 @@ fn any_unmet(t: &[u64], g: usize, n: usize, clocks: &[u64]) -> bool
     requires { Sound t.now × (g < group_room) × LimitsSound t.now g n × (length clocks.now ≡ clock_room) }
     ensures { result ≡ any_below n (lower_unmet t.now g clocks.now) }
 {
-    for i in 0..n {
-        if lower_unmet(t, g, i, clocks) {
-            return true;
-        }
-    }
-    false
+    (0..n).any(|i| lower_unmet(t, g, i, clocks))
 }
 
 fn none_passed(t: &[u64], g: usize, n: usize, clocks: &[u64]) -> bool
     requires { Sound t.now × (g < group_room) × LimitsSound t.now g n × (length clocks.now ≡ clock_room) }
     ensures { result ≡ all_below n (upper_holds t.now g clocks.now) }
 {
-    for i in 0..n {
-        if !upper_holds(t, g, i, clocks) {
-            return false;
-        }
-    }
-    true
+    (0..n).all(|i| upper_holds(t, g, i, clocks))
 }
 
 // Among the limits of one group some lower bound is not yet met, and no upper bound is passed.
@@ -96,12 +86,7 @@ fn has_action(t: &[u64], pre: u64, action: u32) -> bool
     ensures { result ≡ any_below (transition_count t.now) (leaves_by t.now pre action) }
 {
     let first = inner::key_with(pre, action, 0);
-    for k in 0..inner::transition_count(t) {
-        if leaves_by(t, first, k) {
-            return true;
-        }
-    }
-    false
+    (0..inner::transition_count(t)).any(|k| leaves_by(t, first, k))
 }
 
 // Every process's location has the action.
@@ -109,12 +94,7 @@ pub fn is_shared(t: &[u64], places: &[u64], action: u32) -> bool
     requires { Sound t.now × PlacesKnown t.now places.now }
     ensures { result ≡ shared_of t.now places.now (length places.now) action }
 {
-    for p in 0..places.len() {
-        if !has_action(t, places[p], action) {
-            return false;
-        }
-    }
-    true
+    (0..places.len()).all(|p| has_action(t, places[p], action))
 }
 
 // Transition k leaves the location of process p by an action that all have, and will be open later.
@@ -137,12 +117,7 @@ fn process_waits(t: &[u64], clocks: &[u64], places: &[u64], p: usize) -> bool
     requires { Sound t.now × (length clocks.now ≡ clock_room) × PlacesKnown t.now places.now × (p < length places.now) }
     ensures { result ≡ process_waits t.now clocks.now places.now (length places.now) p }
 {
-    for k in 0..inner::transition_count(t) {
-        if is_awaited(t, clocks, places, p, k) {
-            return true;
-        }
-    }
-    false
+    (0..inner::transition_count(t)).any(|k| is_awaited(t, clocks, places, p, k))
 }
 
 // Some process has such a transition. The places are those of the run's processes and no more.
@@ -150,10 +125,5 @@ pub fn waiting(t: &[u64], clocks: &[u64], places: &[u64]) -> bool
     requires { Sound t.now × (length clocks.now ≡ clock_room) × PlacesKnown t.now places.now }
     ensures { result ≡ waiting_of t.now clocks.now places.now (length places.now) }
 {
-    for p in 0..places.len() {
-        if process_waits(t, clocks, places, p) {
-            return true;
-        }
-    }
-    false
+    (0..places.len()).any(|p| process_waits(t, clocks, places, p))
 }

@@ -11,7 +11,7 @@ use grammar::values::Type;
 use system_tables::ids::ChannelCapacity;
 use system_tables::inner::{words, writers};
 
-// The kinds of a message.
+// The kinds of a message. The index says where each is put, so the loop is over it.
 fn put_kinds(t: &mut [u64], q: usize, kinds: Kinds)
     requires { SystemWords t.old × (q < channel_room) × (kinds.count ≤ message_room) }
     ensures { t.new ≡ with_kinds t.old q kinds kinds.count }
@@ -35,6 +35,7 @@ pub fn put_channel(t: &mut [u64], q: usize, kinds: Kinds, capacity: ChannelCapac
 }
 
 // The kind of value e; past the width the word is not read.
+#[tactic(auto, unfolding(crate::specs::Systems::kind_in))]
 fn kind_at(t: &[u64], q: usize, e: usize) -> Kind
     requires { SystemWords t.now × (q < channel_room) × (e < message_room) }
     ensures { result ≡ kind_in t.now q e }

@@ -7,7 +7,7 @@ ghost use Rattle.system_builder.specs.Messages.{known_check, send_check_on, rece
 
 use crate::handed::Kinds;
 use crate::inner::messages;
-use graph_tables::answers::Done;
+use graph_tables::answers::Answer;
 use graph_tables::handed::Vars;
 use graph_tables::refusals::Refusal;
 use system_tables::ids::ChannelCapacity;
@@ -15,65 +15,67 @@ use system_tables::inner::{ceiling, words};
 use system_tables::{formed, sizes};
 
 // Room for one more graph.
-pub fn graph_check(t: &[u64]) -> Done
+#[tactic(auto, using(crate::proofs::SystemLaws::words_of), unfolding(crate::specs::Systems::graph_check, laws::specs::Ladder::unless))]
+pub fn graph_check(t: &[u64]) -> Answer<()>
     ensures { result ≡ graph_check t.now }
 {
     if !formed::system_formed(t, true) {
-        return Done::Refused(Refusal::BadState);
+        return Err(Refusal::BadState);
     }
     if sizes::GRAPHS <= words::graph_count(t) {
-        return Done::Refused(Refusal::TableFull);
+        return Err(Refusal::TableFull);
     }
-    Done::Accepted
+    Ok(())
 }
 
 // A channel of few kinds, that holds no more than a queue has room for.
-pub fn channel_check(t: &[u64], kinds: Kinds, capacity: ChannelCapacity) -> Done
+#[tactic(auto, using(crate::proofs::SystemLaws::words_of), unfolding(crate::specs::Systems::channel_check, laws::specs::Ladder::unless))]
+pub fn channel_check(t: &[u64], kinds: Kinds, capacity: ChannelCapacity) -> Answer<()>
     ensures { result ≡ channel_check t.now kinds capacity }
 {
     if !formed::system_formed(t, true) {
-        return Done::Refused(Refusal::BadState);
+        return Err(Refusal::BadState);
     }
     if graph_tables::sizes::MESSAGE < kinds.count {
-        return Done::Refused(Refusal::TableFull);
+        return Err(Refusal::TableFull);
     }
     if !ceiling::has_room(kinds.count, capacity) {
-        return Done::Refused(Refusal::ChannelTooLarge);
+        return Err(Refusal::ChannelTooLarge);
     }
     if sizes::CHANNELS <= words::channel_count(t) {
-        return Done::Refused(Refusal::TableFull);
+        return Err(Refusal::TableFull);
     }
-    Done::Accepted
+    Ok(())
 }
 
 // 32, then 17 for a graph that is not there.
-pub fn member_check(t: &[u64], g: u32) -> Done
+#[tactic(auto, using(crate::proofs::SystemLaws::words_of), unfolding(crate::specs::Graphs::member_check, laws::specs::Ladder::unless))]
+pub fn member_check(t: &[u64], g: u32) -> Answer<()>
     ensures { result ≡ member_check t.now g }
 {
     if !formed::system_formed(t, true) {
-        return Done::Refused(Refusal::BadState);
+        return Err(Refusal::BadState);
     }
     if words::graph_count(t) <= g as usize {
-        return Done::Refused(Refusal::MissingPg);
+        return Err(Refusal::MissingPg);
     }
-    Done::Accepted
+    Ok(())
 }
 
 // 32, 17, then 30 for a channel that is not there.
-pub fn known_check(t: &[u64], g: u32, q: u32) -> Done
+#[tactic(auto, unfolding(crate::specs::Messages::known_check, laws::specs::Ladder::unless))]
+pub fn known_check(t: &[u64], g: u32, q: u32) -> Answer<()>
     ensures { result ≡ known_check t.now g q }
 {
-    let check = member_check(t, g);
-    if let Done::Refused(r) = check {
-        return Done::Refused(r);
-    }
+    member_check(t, g)?;
     if words::channel_count(t) <= q as usize {
-        return Done::Refused(Refusal::MissingChannel);
+        return Err(Refusal::MissingChannel);
     }
-    Done::Accepted
+    Ok(())
 }
 
 // A send: then 5.
+#[tactic(auto, unfolding(crate::specs::Messages::send_check_on))]
 pub fn send_check<'a>(
     t: &[u64],
     g: u32,
@@ -83,13 +85,10 @@ pub fn send_check<'a>(
     y: &'a [u64],
     z: &'a [u64],
     count: usize,
-) -> Done
+) -> Answer<()>
     ensures { result ≡ send_check_on t.now g q (chosen w.now x.now y.now z.now) count }
 {
-    let check = known_check(t, g, q);
-    if let Done::Refused(r) = check {
-        return Done::Refused(r);
-    }
+    known_check(t, g, q)?;
     messages::sent_check(
         t,
         q as usize,
@@ -103,25 +102,24 @@ pub fn send_check<'a>(
 }
 
 // A receive: then 5.
-pub fn receive_check(t: &[u64], g: u32, q: u32, vars: Vars) -> Done
+#[tactic(auto, unfolding(crate::specs::Messages::receive_check_on))]
+pub fn receive_check(t: &[u64], g: u32, q: u32, vars: Vars) -> Answer<()>
     ensures { result ≡ receive_check_on t.now g q vars }
 {
-    let check = known_check(t, g, q);
-    if let Done::Refused(r) = check {
-        return Done::Refused(r);
-    }
+    known_check(t, g, q)?;
     messages::received_check(t, q as usize, words::graph_at(t, g as usize), vars)
 }
 
 // A channel of a system that can be run.
-pub fn read_check(t: &[u64], q: u32) -> Done
+#[tactic(auto, using(crate::proofs::SystemLaws::words_of), unfolding(crate::specs::Systems::read_check, laws::specs::Ladder::unless))]
+pub fn read_check(t: &[u64], q: u32) -> Answer<()>
     ensures { result ≡ read_check t.now q }
 {
     if !formed::system_formed(t, false) {
-        return Done::Refused(Refusal::BadState);
+        return Err(Refusal::BadState);
     }
     if words::channel_count(t) <= q as usize {
-        return Done::Refused(Refusal::MissingChannel);
+        return Err(Refusal::MissingChannel);
     }
-    Done::Accepted
+    Ok(())
 }

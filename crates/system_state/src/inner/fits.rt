@@ -25,12 +25,7 @@ fn runs_fit(t: &[u64], s: &[u64]) -> bool
     requires { SystemSound t.now × StateWords s.now }
     ensures { result ≡ all_below (graph_count t.now) (run_fits t.now s.now) }
 {
-    for g in 0..system_tables::inner::words::graph_count(t) {
-        if !run_fits(t, s, g) {
-            return false;
-        }
-    }
-    true
+    (0..system_tables::inner::words::graph_count(t)).all(|g| run_fits(t, s, g))
 }
 
 // The most slots that channel q ever takes.
@@ -60,12 +55,7 @@ fn queues_fit(t: &[u64], s: &[u64]) -> bool
     requires { SystemSound t.now × StateWords s.now }
     ensures { result ≡ all_below (channel_count t.now) (queue_fits_at t.now s.now) }
 {
-    for q in 0..system_tables::inner::words::channel_count(t) {
-        if !queue_fits(t, s, q) {
-            return false;
-        }
-    }
-    true
+    (0..system_tables::inner::words::channel_count(t)).all(|q| queue_fits(t, s, q))
 }
 
 // The state is one of the table's.

@@ -118,6 +118,7 @@ pub fn channel_part(w: u64) -> usize
     (w / layout::COMMUNICATION_SPAN) as usize
 }
 
+// Every number has a kind here (`message_of` of specs/), so TryFrom, which refuses some, isn't it: what may not change.
 pub fn message_of(k: u64) -> Message
     ensures { result ≡ message_of k }
 {

@@ -1,48 +1,50 @@
+use Rattle.std.proofs.lemmas.Result.{err_from_is_err_and}
+use Rattle.std.specs.Prelude.{Err}
 use Prim.Native.Nat.{ℕ, ◌<◌}
 use mathlib.Core.Path.{ap, ◌∙◌}
 use mathlib.Core.List.{List}
 use native.Mathlib.Omega.{arith}
 use borrow.Author.Tests.{lt-ltb, le-ltb}
 use Rattle.laws.proofs.Ladder.{passed, stopped}
-use Rattle.laws.proofs.Tests.{held, failed}
 use Rattle.graph_tables.specs.Refusals.{refusal}
 use Rattle.system_tables.specs.Sizes.{channel_room}
 use Rattle.system_tables.specs.Words.{channel_count}
 use Rattle.channel_system.specs.Readers.{queued_of, queued_at}
-use Rattle.channel_system.specs.declared.answers.Queued.TheVariants.{Refused}
 use Rattle.channel_system.proofs.FittingLaws.{fits_table_lem, fits_state}
 use Rattle.channel_system.proofs.readers.queue_value.Goals as goal
 
-pub returns-then-not-system_fits : goal.returns-then-not-system_fits
+pub returns-in_err-fitting : goal.returns-in_err-fitting
 unfolding queued_of
-returns-then-not-system_fits c = stopped _ _ (failed c.system_fits.ensures c.if-not-system_fits.true-raw)
+returns-in_err-fitting c =
+    let p = err_from_is_err_and c.from_residual.result c.from_residual.ensures.1 in
+    p.1 ∙ ap Err (p.2 ∙ c.in_err-fitting.ensures.0) ∙ stopped _ _ c.in_err-fitting.ensures.1
 
 pub channel_count-requires : goal.channel_count-requires
 channel_count-requires c =
-    (fits_table_lem c.args.t.now c.args.s.now (held c.system_fits.ensures c.if-not-system_fits.false-raw)).words
+    (fits_table_lem c.args.t.now c.args.s.now c.in_ok-fitting.ensures).words
 
 pub returns-then-channel_count-q : goal.returns-then-channel_count-q
 unfolding queued_of
 returns-then-channel_count-q c =
-    passed (Refused (refusal 32)) (held c.system_fits.ensures c.if-not-system_fits.false-raw)
+    passed (Err (refusal 32)) c.in_ok-fitting.ensures
     (stopped _ _ (le-ltb _ _ (rw c.channel_count.ensures at c.if-channel_count-q.true)))
 
 pub queue_at-requires : goal.queue_at-requires
 queue_at-requires c =
-    let fits = held c.system_fits.ensures c.if-not-system_fits.false-raw in
+    let fits = c.in_ok-fitting.ensures in
     let known : c.args.channel.0 < channel_count c.args.t.now = rw c.channel_count.ensures at c.if-channel_count-q.false in
     let small : c.args.channel.0 < channel_room = omega (arith, known, (fits_table_lem c.args.t.now c.args.s.now fits).channels) in
     ((fits_state c.args.t.now c.args.s.now fits).words, small)
 
 pub queued_at-requires : goal.queued_at-requires
 queued_at-requires c =
-    let fits = held c.system_fits.ensures c.if-not-system_fits.false-raw in
+    let fits = c.in_ok-fitting.ensures in
     let known = rw c.channel_count.ensures at c.if-channel_count-q.false in
     rw c.queue_at.ensures ((fits_state _ _ fits).queue _ known).formed.counted
 
 pub returns : goal.returns
 unfolding queued_of
 returns c =
-    passed (Refused (refusal 32)) (held c.system_fits.ensures c.if-not-system_fits.false-raw)
-    (passed (Refused (refusal 30)) (lt-ltb _ _ (rw c.channel_count.ensures at c.if-channel_count-q.false))
+    passed (Err (refusal 32)) c.in_ok-fitting.ensures
+    (passed (Err (refusal 30)) (lt-ltb _ _ (rw c.channel_count.ensures at c.if-channel_count-q.false))
     (c.queued_at.ensures ∙ ap (λ (x : List ℕ). queued_at x c.args.k) c.queue_at.ensures))

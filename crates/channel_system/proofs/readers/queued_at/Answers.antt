@@ -1,6 +1,7 @@
+use Rattle.grammar.specs.declared.values.Val.{Val}
+use Rattle.std.specs.Prelude.{Ok, Some}
 use borrow.Author.Tests.{lt-ltb, le-ltb}
 use mathlib.Core.Path.{ap}
-use Rattle.channel_system.specs.declared.answers.Queued.TheVariants.{At}
 use Rattle.channel_system.proofs.readers.queued_at.Goals as goal
 
 pub returns-then-stored-k : goal.returns-then-stored-k
@@ -11,4 +12,4 @@ value_at-requires c = (c.requires, rw c.stored.ensures at c.if-stored-k.false)
 
 pub returns : goal.returns
 returns c =
-    rw (lt-ltb _ _ (rw c.stored.ensures at c.if-stored-k.false)) (ap At c.value_at.ensures)
+    rw (lt-ltb _ _ (rw c.stored.ensures at c.if-stored-k.false)) (ap (λ (v : Val). Ok (Some v)) c.value_at.ensures)

@@ -8,4 +8,4 @@ use Rattle.export.proofs.running.njn_state_transition.Goals as goal
 pub returns : goal.returns
 unfolding answering unless
 returns c =
-    rw (c.event.ensures.0, c.event.ensures.1, c.transition.ensures.0, c.transition.ensures.1, le-leb 12 (length c.args.out.now) c.if-out-lt-EVENT.false) (refl, refl, refl)
+    rw (c.told.ensures.0, c.told.ensures.1, c.transition.ensures.0, c.transition.ensures.1, le-leb 12 (length c.args.out.now) c.if-out-lt-EVENT.false) (refl, refl, refl)

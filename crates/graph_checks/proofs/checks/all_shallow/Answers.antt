@@ -16,7 +16,7 @@ returns-then-not-is_shallow c =
     let k = d.before in
     let l = k.before.before.before in
     sym (all_fails _ _ l.loop-i.i (omega arith)
-    (failed (rw (k.kinds_of.ensures, k.choose.ensures) at d.is_shallow.ensures) c.if-not-is_shallow.true-raw))
+    (failed (rw (k.kinds_of.ensures, k.choose.ensures) at d.is_shallow.ensures) c.if-not-is_shallow.true))
 
 pub loop-i-preserved : goal.loop-i-preserved
 unfolding shallow
@@ -26,7 +26,7 @@ loop-i-preserved c =
     let l = k.before.before.before in (
       omega arith,
       all_more _ _ l.loop-i.invariant.1
-          (held (rw (k.kinds_of.ensures, k.choose.ensures) at d.is_shallow.ensures) c.if-not-is_shallow.false-raw),
+          (held (rw (k.kinds_of.ensures, k.choose.ensures) at d.is_shallow.ensures) c.if-not-is_shallow.false),
     )
 
 pub returns : goal.returns

@@ -12,11 +12,11 @@ loop-i-init c = (search rules, all_none _)
 pub returns-then-not-starts_inside : goal.returns-then-not-starts_inside
 unfolding all_start_inside
 returns-then-not-starts_inside c =
-    sym (all_fails _ _ c.loop-i.i (omega arith) (failed c.starts_inside.ensures c.if-not-starts_inside.true-raw))
+    sym (all_fails _ _ c.loop-i.i (omega arith) (failed c.starts_inside.ensures c.if-not-starts_inside.true))
 
 pub loop-i-preserved : goal.loop-i-preserved
 loop-i-preserved c =
-    (omega arith, all_more _ _ c.loop-i.invariant.1 (held c.starts_inside.ensures c.if-not-starts_inside.false-raw))
+    (omega arith, all_more _ _ c.loop-i.invariant.1 (held c.starts_inside.ensures c.if-not-starts_inside.false))
 
 pub returns : goal.returns
 unfolding all_start_inside

@@ -12,10 +12,10 @@ loop-i-init c = (search rules, all_none _)
 pub returns-then-not-clock_known : goal.returns-then-not-clock_known
 unfolding clocks_known
 returns-then-not-clock_known c =
-    sym (all_fails _ _ c.loop-i.i (omega arith) (failed c.clock_known.ensures c.if-not-clock_known.true-raw))
+    sym (all_fails _ _ c.loop-i.i (omega arith) (failed c.clock_known.ensures c.if-not-clock_known.true))
 
 pub loop-i-preserved : goal.loop-i-preserved
-loop-i-preserved c = (omega arith, all_more _ _ c.loop-i.invariant.1 (held c.clock_known.ensures c.if-not-clock_known.false-raw))
+loop-i-preserved c = (omega arith, all_more _ _ c.loop-i.invariant.1 (held c.clock_known.ensures c.if-not-clock_known.false))
 
 pub returns : goal.returns
 unfolding clocks_known

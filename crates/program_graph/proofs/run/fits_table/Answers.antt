@@ -7,11 +7,11 @@ use Rattle.program_graph.proofs.run.fits_table.Goals as goal
 
 pub returns-then-not-well_formed : goal.returns-then-not-well_formed
 unfolding fits_table
-returns-then-not-well_formed c = and_no _ (failed c.well_formed-2.ensures c.if-not-well_formed.true-raw)
+returns-then-not-well_formed c = and_no _ (failed c.well_formed-2.ensures c.if-not-well_formed.true)
 
 pub run_formed-requires : goal.run_formed-requires
-run_formed-requires c = sound _ false (held c.well_formed-2.ensures c.if-not-well_formed.false-raw)
+run_formed-requires c = sound _ false (held c.well_formed-2.ensures c.if-not-well_formed.false)
 
 pub returns : goal.returns
 unfolding fits_table
-returns c = and_yes (held c.well_formed-2.ensures c.if-not-well_formed.false-raw) c.run_formed.ensures
+returns c = and_yes (held c.well_formed-2.ensures c.if-not-well_formed.false) c.run_formed.ensures

@@ -19,23 +19,23 @@ unfolding good_block
 returns-then-not-good_count c =
     and_yes (eq-eqb _ _ c.if-b-ne-BLOCK.false)
     (and_yes (eq-eqb _ _ (sym c.number.ensures.0 ∙ c.if-number-place.false))
-    (and_no _ (failed c.good_count.ensures c.if-not-good_count.true-raw)))
+    (and_no _ (failed c.good_count.ensures c.if-not-good_count.true)))
 
 pub returns-then-not-zeros : goal.returns-then-not-zeros
 unfolding good_block
 returns-then-not-zeros c =
     and_yes (eq-eqb _ _ c.if-b-ne-BLOCK.false)
     (and_yes (eq-eqb _ _ (sym c.number.ensures.0 ∙ c.if-number-place.false))
-    (and_yes (held c.good_count.ensures c.if-not-good_count.false-raw)
-    (and_no _ (failed c.zeros.ensures c.if-not-zeros.true-raw))))
+    (and_yes (held c.good_count.ensures c.if-not-good_count.false)
+    (and_no _ (failed c.zeros.ensures c.if-not-zeros.true))))
 
 pub returns-then-number-sum : goal.returns-then-number-sum
 unfolding good_block
 returns-then-number-sum c =
     and_yes (eq-eqb _ _ c.if-b-ne-BLOCK.false)
     (and_yes (eq-eqb _ _ (sym c.number.ensures.0 ∙ c.if-number-place.false))
-    (and_yes (held c.good_count.ensures c.if-not-good_count.false-raw)
-    (and_yes (held c.zeros.ensures c.if-not-zeros.false-raw)
+    (and_yes (held c.good_count.ensures c.if-not-good_count.false)
+    (and_yes (held c.zeros.ensures c.if-not-zeros.false)
     (and_no _ (ne_eqb _ _ (rw (c.number-2.ensures.0, c.sum.ensures) at c.if-number-sum.true))))))
 
 pub returns : goal.returns
@@ -43,7 +43,7 @@ unfolding good_block
 returns c =
     and_yes (eq-eqb _ _ c.if-b-ne-BLOCK.false)
     (and_yes (eq-eqb _ _ (sym c.number.ensures.0 ∙ c.if-number-place.false))
-    (and_yes (held c.good_count.ensures c.if-not-good_count.false-raw)
-    (and_yes (held c.zeros.ensures c.if-not-zeros.false-raw)
+    (and_yes (held c.good_count.ensures c.if-not-good_count.false)
+    (and_yes (held c.zeros.ensures c.if-not-zeros.false)
     (and_yes (eq-eqb _ _ (sym c.number-2.ensures.0 ∙ (c.if-number-sum.false ∙ c.sum.ensures)))
     c.good_slots.ensures))))

@@ -6,6 +6,6 @@ pub returns-then-k-eq-EMPTY : goal.returns-then-k-eq-EMPTY
 unfolding is_probe
 returns-then-k-eq-EMPTY c = rw (eq-eqb _ _ c.if-k-eq-EMPTY.true)
 
-pub returns : goal.returns
+pub returns-else-k-eq-EMPTY : goal.returns-else-k-eq-EMPTY
 unfolding is_probe
-returns c = rw (ne_eqb _ _ c.if-k-eq-EMPTY.false)
+returns-else-k-eq-EMPTY c = rw (ne_eqb _ _ c.if-k-eq-EMPTY.false)

@@ -11,13 +11,13 @@ returns-then-t-ne-WORDS c = and_no _ (ne_eqb _ _ c.if-t-ne-WORDS.true)
 pub returns-then-not-system_counted : goal.returns-then-not-system_counted
 unfolding system_formed
 returns-then-not-system_counted c =
-    and_yes (eq-eqb _ _ c.if-t-ne-WORDS.false) (and_no _ (failed c.system_counted.ensures c.if-not-system_counted.true-raw))
+    and_yes (eq-eqb _ _ c.if-t-ne-WORDS.false) (and_no _ (failed c.system_counted.ensures c.if-not-system_counted.true))
 
 pub members_formed-requires : goal.members_formed-requires
 members_formed-requires c =
-    (c.if-t-ne-WORDS.false, held c.system_counted.ensures c.if-not-system_counted.false-raw)
+    (c.if-t-ne-WORDS.false, held c.system_counted.ensures c.if-not-system_counted.false)
 
 pub returns : goal.returns
 unfolding system_formed
 returns c =
-    and_yes (eq-eqb _ _ c.if-t-ne-WORDS.false) (and_yes (held c.system_counted.ensures c.if-not-system_counted.false-raw) c.members_formed.ensures)
+    and_yes (eq-eqb _ _ c.if-t-ne-WORDS.false) (and_yes (held c.system_counted.ensures c.if-not-system_counted.false) c.members_formed.ensures)

@@ -1,31 +1,15 @@
-use mathlib.Core.Path.{sym}
-use native.Mathlib.Omega.{arith}
-use borrow.Author.Tests.{eq-eqb, ne_eqb}
-use Rattle.laws.proofs.Tests.{held, failed}
-use Rattle.laws.proofs.BelowLaws.{and_yes, and_no, all_none, all_more, all_fails, all_done}
+use Rattle.std.proofs.Common.{rules}
+use Rattle.laws.specs.Below.{◌and◌}
+use Rattle.std.proofs.lemmas.Bool.{eq-eqb}
+use Rattle.laws.proofs.BelowLaws.{and_yes}
+use Rattle.laws.proofs.Chains.{all_in_range}
 use Rattle.c_words.specs.Handed.{values_known}
 use Rattle.c_words.proofs.inner.handed.values_known.Goals as goal
 
-pub returns-then-ws-ne0 : goal.returns-then-ws-ne0
+pub returns-then-ws-eq0 : goal.returns-then-ws-eq0
 unfolding values_known
-returns-then-ws-ne0 c = and_no _ (ne_eqb _ _ c.if-ws-ne0.true)
+returns-then-ws-eq0 c = and_yes (eq-eqb _ _ c.if-ws-eq0.true) (all_in_range _ _ c.all.ensures.ran (λ x b t k. search rules))
 
-pub loop-i-init : goal.loop-i-init
-loop-i-init c = (omega arith, all_none _)
-
-pub returns-then-not-value_known : goal.returns-then-not-value_known
-unfolding values_known
-returns-then-not-value_known c =
-    let l = c.before.before.before in
-    and_yes (eq-eqb _ _ l.if-ws-ne0.false)
-    (sym (all_fails _ _ l.loop-i.i (omega arith) (failed c.value_known.ensures c.if-not-value_known.true-raw)))
-
-pub loop-i-preserved : goal.loop-i-preserved
-loop-i-preserved c =
-    (omega arith, all_more _ _ c.loop-i.invariant.1 (held c.value_known.ensures c.if-not-value_known.false-raw))
-
-pub returns : goal.returns
-unfolding values_known
-returns c =
-    let l = c.before in
-    and_yes (eq-eqb _ _ l.if-ws-ne0.false) (sym (all_done _ _ l.loop-i.i (omega arith) (omega arith) l.loop-i.invariant.1))
+pub returns-else-ws-eq0 : goal.returns-else-ws-eq0
+unfolding values_known ◌and◌
+returns-else-ws-eq0 c = search rules

@@ -4,7 +4,7 @@ use Rattle.channel_system.proofs.inner.listing.seek_action.Goals as goal
 
 pub returns-then-not-listed_as : goal.returns-then-not-listed_as
 unfolding entries_by
-returns-then-not-listed_as c = rw (failed c.listed_as.ensures c.if-not-listed_as.true-raw)
+returns-then-not-listed_as c = rw (failed c.listed_as.ensures c.if-not-listed_as.true)
 
 pub seek_by-requires : goal.seek_by-requires
 seek_by-requires c =
@@ -14,5 +14,5 @@ seek_by-requires c =
 pub returns : goal.returns
 unfolding entries_by
 returns c =
-    rw (held c.listed_as.ensures c.if-not-listed_as.false-raw)
+    rw (held c.listed_as.ensures c.if-not-listed_as.false)
     (rw (c.graph_at.ensures, c.run_at.ensures) at c.seek_by.ensures)

@@ -1,4 +1,3 @@
-use Prim.Native.Nat.{◌-◌, ◌≤◌}
 use mathlib.Core.Path.{◌≡◌}
 use lib.ListN.{length}
 use Rattle.channel_system.specs.Steps.{locations_of}
@@ -6,7 +5,4 @@ use Rattle.channel_system.proofs.PostLaws.{Copied}
 use Rattle.channel_system.proofs.inner.posts.locations.Given as goal
 
 abbrev pub invariant-loop-i : goal.invariant-loop-i
-invariant-loop-i l = (l.i ≤ l.n) × (length l.to ≡ length l.initial.to) × Copied l.to (locations_of l.posts) l.i
-
-abbrev pub decreases-loop-i : goal.decreases-loop-i
-decreases-loop-i l = l.n - l.i
+invariant-loop-i l = (length l.to ≡ length l.initial.to) × Copied l.to (locations_of l.posts) l.i

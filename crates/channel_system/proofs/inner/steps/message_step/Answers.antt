@@ -13,9 +13,3 @@ returns-in-Send c = rw c.in-Send.is c.send_step.ensures
 
 pub returns-in-Receive : goal.returns-in-Receive
 returns-in-Receive c = rw c.in-Receive.is c.receive_step.ensures
-
-pub returns-in-ProbeEmptyQueue : goal.returns-in-ProbeEmptyQueue
-returns-in-ProbeEmptyQueue c = rw c.in-ProbeEmptyQueue.is c.probe_step.ensures
-
-pub returns-in-ProbeFullQueue : goal.returns-in-ProbeFullQueue
-returns-in-ProbeFullQueue c = rw c.in-ProbeFullQueue.is c.probe_step-in-ProbeFullQueue.ensures

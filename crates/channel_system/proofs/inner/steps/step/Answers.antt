@@ -30,17 +30,17 @@ known e = lt-ltb _ _ (rw e.graph_count.ensures at e.if-graph_count-g.false)
 pub returns-then-graph_count-g : goal.returns-then-graph_count-g
 unfolding moved_of unless
 returns-then-graph_count-g c =
-    rw (le-ltb _ _ (rw c.graph_count.ensures at c.if-graph_count-g.true)) (c.refused.ensures, refl)
+    rw (le-ltb _ _ (rw c.graph_count.ensures at c.if-graph_count-g.true)) (refl, refl)
 
 pub returns-then-owner-g : goal.returns-then-owner-g
 unfolding moved_of unless
 returns-then-owner-g c =
-    rw (known (goal.at.returns-then-owner-g c).Else-graph_count-g, ne_eqb _ _ c.if-owner-g.true) (c.refused-then-owner-g.ensures, refl)
+    rw (known (goal.at.returns-then-owner-g c).Else-graph_count-g, ne_eqb _ _ c.if-owner-g.true) (refl, refl)
 
 pub returns-then-not-own : goal.returns-then-not-own
 unfolding moved_of unless
 returns-then-not-own c =
-    rw (known (goal.at.returns-then-not-own c).Else-graph_count-g, eq-eqb _ _ c.if-owner-g.false, failed c.own.ensures c.if-not-own.true-raw) (c.refused-then-not-own.ensures, refl)
+    rw (known (goal.at.returns-then-not-own c).Else-graph_count-g, eq-eqb _ _ c.if-owner-g.false, failed c.own.ensures c.if-not-own.true) (refl, refl)
 
 pub locations-requires : goal.locations-requires
 locations-requires c =
@@ -70,5 +70,5 @@ returns c =
     ∙ ap (λ (k : ℕ). take k (locations_of ps)) (c.few-n.ensures ∙ ap few_of (sym (locations_length ps))) in
     let moved = ap (λ (qs : List ℕ). step_as t s g a qs c.args.word (spoken_by t g a)) same
     ∙ few_posts_lem t s g (few_processes f) a (locations_of ps) c.args.word (spoken_by t g a) in
-    rw (known (goal.at.returns c).Else-graph_count-g, eq-eqb _ _ c.if-owner-g.false, held c.own.ensures c.if-not-own.false-raw)
+    rw (known (goal.at.returns c).Else-graph_count-g, eq-eqb _ _ c.if-owner-g.false, held c.own.ensures c.if-not-own.false)
     (subst (DidMove c.step_as.result c.step_as.new.s) moved c.step_as.ensures)

@@ -19,7 +19,7 @@ pub returns-then-not-stores_in : goal.returns-then-not-stores_in
 unfolding sent_into
 returns-then-not-stores_in c =
     let e : stores (capacity_of c.args.t.now c.args.q) ≡ false =
-    ap stores (sym c.capacity_of-capacity.ensures) ∙ failed c.stores_in.ensures c.if-not-stores_in.true-raw in
+    ap stores (sym c.capacity_of-capacity.ensures) ∙ failed c.stores_in.ensures c.if-not-stores_in.true in
     rw e
 
 pub push_all-requires : goal.push_all-requires
@@ -32,7 +32,7 @@ unfolding sent_into
 returns c =
     let e : c.queue_start-at.result + queue_words - c.queue_start-at.result ≡ queue_words = omega arith in
     let some : stores (capacity_of c.args.t.now c.args.q) ≡ true =
-    ap stores (sym c.capacity_of-capacity.ensures) ∙ held c.stores_in.ensures c.if-not-stores_in.false-raw in
+    ap stores (sym c.capacity_of-capacity.ensures) ∙ held c.stores_in.ensures c.if-not-stores_in.false in
     rw some
     (put_back c.args.s.now c.args.q _ _ c.queue_start-at.ensures e (λ (x : List ℕ). pushed_all x c.args.message) _
     c.push_all.ensures.0)

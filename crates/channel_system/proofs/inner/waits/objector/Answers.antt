@@ -21,11 +21,11 @@ pub returns-then-not-graph_holds : goal.returns-then-not-graph_holds
 returns-then-not-graph_holds c =
     sym
     (lowest_at _ _ c.loop-g.g (rw c.loop-g.invariant.1 at c.loop-g-test.true) c.loop-g.invariant.2
-    (failed c.graph_holds.ensures c.if-not-graph_holds.true-raw))
+    (failed c.graph_holds.ensures c.if-not-graph_holds.true))
 
 pub loop-g-preserved : goal.loop-g-preserved
 loop-g-preserved c =
-    (omega arith, c.loop-g.invariant.1, all_more _ _ c.loop-g.invariant.2 (held c.graph_holds.ensures c.if-not-graph_holds.false-raw))
+    (omega arith, c.loop-g.invariant.1, all_more _ _ c.loop-g.invariant.2 (held c.graph_holds.ensures c.if-not-graph_holds.false))
 
 pub returns : goal.returns
 returns c =

@@ -18,17 +18,17 @@ use Rattle.explainer.proofs.CauseTheorems.{process_there}
 use Rattle.explainer.proofs.inner.cause.cause.Goals as goal
 use Rattle.explainer.proofs.inner.cause.cause.Goals.{After-reset_by, After-unready-p}
 
-pub copy-requires : goal.copy-requires
-copy-requires c = sym (times_length c.args.r.now c.requires.1.words)
+pub copy_from_slice-requires : goal.copy_from_slice-requires
+copy_from_slice-requires c = sym (times_length c.args.r.now c.requires.1.words)
 
 pub reset_by-requires : goal.reset_by-requires
 reset_by-requires c =
-    (c.requires.0, rw c.copy.ensures (times_length c.args.r.now c.requires.1.words))
+    (c.requires.0, rw c.copy_from_slice.ensures.after (times_length c.args.r.now c.requires.1.words))
 
 -- the clocks after
 moved : (c : After-reset_by) → c.reset_by.new.clocks ≡ clocks_by c.args.t.now c.args.a (clocks_in c.args.r.now)
 moved c =
-    c.reset_by.ensures ∙ ap (λ (x : List ℕ). clocks_by c.args.t.now c.args.a x) c.copy.ensures
+    c.reset_by.ensures ∙ ap (λ (x : List ℕ). clocks_by c.args.t.now c.args.a x) c.copy_from_slice.ensures.after
 
 pub unready-p-requires : goal.unready-p-requires
 unready-p-requires c = (c.requires.0, c.requires.1, moved (goal.at.unready-p-requires c).After-reset_by, c.requires.2.one_each)

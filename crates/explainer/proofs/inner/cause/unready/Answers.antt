@@ -20,10 +20,10 @@ is_ready-requires c =
 
 pub returns-then-not-is_ready : goal.returns-then-not-is_ready
 returns-then-not-is_ready c =
-    sym (lowest_at _ _ c.loop-p.p (omega (arith, c.requires.3)) c.loop-p.invariant.1 (failed c.is_ready.ensures c.if-not-is_ready.true-raw))
+    sym (lowest_at _ _ c.loop-p.p (omega (arith, c.requires.3)) c.loop-p.invariant.1 (failed c.is_ready.ensures c.if-not-is_ready.true))
 
 pub loop-p-preserved : goal.loop-p-preserved
-loop-p-preserved c = (omega arith, all_more _ _ c.loop-p.invariant.1 (held c.is_ready.ensures c.if-not-is_ready.false-raw))
+loop-p-preserved c = (omega arith, all_more _ _ c.loop-p.invariant.1 (held c.is_ready.ensures c.if-not-is_ready.false))
 
 pub returns : goal.returns
 returns c =

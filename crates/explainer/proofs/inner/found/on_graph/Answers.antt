@@ -1,5 +1,5 @@
 use mathlib.Core.Path.{◌≡◌, sym, ◌∙◌}
-use Rattle.graph_tables.specs.Answers.{done_number}
+use Rattle.graph_tables.specs.Answers.{answer_number}
 use Rattle.program_graph.specs.Running.{step_of}
 use Rattle.system_tables.specs.Words.{graph_part}
 use Rattle.channel_system.specs.Steps.{run_of}
@@ -25,7 +25,7 @@ step_number-number-requires c =
 -- what the graph's own step answers
 answers : (c : After-step_number-number)
     → c.step_number-number.result
-    ≡ done_number
+    ≡ answer_number
     (step_of (graph_part c.args.t.now c.args.g) (run_of c.args.s.now c.args.g) c.args.a c.args.posts.now
     c.args.word).answer
 answers c = c.step_number-number.ensures ∙ rw (c.run_at-run.ensures, c.graph_at-graph.ensures)

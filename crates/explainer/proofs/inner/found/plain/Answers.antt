@@ -35,7 +35,7 @@ returns-then-owner-g c = rw (known (goal.at.returns-then-owner-g c).Else-graph_c
 pub returns-then-not-own : goal.returns-then-not-own
 unfolding plain_why unless
 returns-then-not-own c =
-    rw (known (goal.at.returns-then-not-own c).Else-graph_count-g, eq-eqb _ _ c.if-owner-g.false, failed c.own.ensures c.if-not-own.true-raw)
+    rw (known (goal.at.returns-then-not-own c).Else-graph_count-g, eq-eqb _ _ c.if-owner-g.false, failed c.own.ensures c.if-not-own.true)
     (c.answered-then-not-own.ensures ∙ rw c.number-then-not-own.ensures)
 
 pub locations-requires : goal.locations-requires
@@ -69,6 +69,6 @@ returns c =
     let minus : c.few-n.result - 0 ≡ c.few-n.result = omega arith in
     let same = ap (λ (k : ℕ). take k c.locations.new.to) minus ∙ c.locations.ensures.0
     ∙ ap (λ (k : ℕ). take k (locations_of ps)) (c.few-n.ensures ∙ ap few_of (sym (locations_length ps))) in
-    rw (known (goal.at.returns c).Else-graph_count-g, eq-eqb _ _ c.if-owner-g.false, held c.own.ensures c.if-not-own.false-raw)
+    rw (known (goal.at.returns c).Else-graph_count-g, eq-eqb _ _ c.if-owner-g.false, held c.own.ensures c.if-not-own.false)
     (c.on_graph.ensures ∙ ap (λ (qs : List ℕ). graph_why t s g a qs c.args.word) same
     ∙ why_few t s g a (locations_of ps) c.args.word (few_processes (fitting (goal.at.returns c).Else-graph_count-g)))

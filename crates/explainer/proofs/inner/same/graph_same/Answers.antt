@@ -15,7 +15,7 @@ transitions_same-requires c =
 pub returns-then-not-transitions_same : goal.returns-then-not-transitions_same
 unfolding graph_same
 returns-then-not-transitions_same c =
-    and_no _ (failed (c.transitions_same.ensures ∙ rw c.graph_at-graph.ensures) c.if-not-transitions_same.true-raw)
+    and_no _ (failed (c.transitions_same.ensures ∙ rw c.graph_at-graph.ensures) c.if-not-transitions_same.true)
 
 pub locations_same-requires : goal.locations_same-requires
 locations_same-requires c =
@@ -24,5 +24,5 @@ locations_same-requires c =
 pub returns : goal.returns
 unfolding graph_same
 returns c =
-    and_yes (held (c.transitions_same.ensures ∙ rw c.graph_at-graph.ensures) c.if-not-transitions_same.false-raw)
+    and_yes (held (c.transitions_same.ensures ∙ rw c.graph_at-graph.ensures) c.if-not-transitions_same.false)
     (c.locations_same.ensures ∙ rw c.graph_at-graph.ensures)

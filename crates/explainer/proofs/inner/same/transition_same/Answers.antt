@@ -11,7 +11,7 @@ guard_same-requires c = (c.requires.0, c.requires.1, c.requires.3, c.requires.4)
 
 pub returns-then-not-guard_same : goal.returns-then-not-guard_same
 unfolding transition_same
-returns-then-not-guard_same c = and_no _ (failed c.guard_same.ensures c.if-not-guard_same.true-raw)
+returns-then-not-guard_same c = and_no _ (failed c.guard_same.ensures c.if-not-guard_same.true)
 
 pub limit_count-requires : goal.limit_count-requires
 limit_count-requires c = (c.requires.0.words, omega (arith, c.requires.4, c.requires.0.counts.transitions))
@@ -24,4 +24,4 @@ limits_same-requires c =
 pub returns : goal.returns
 unfolding transition_same
 returns c =
-    and_yes (held c.guard_same.ensures c.if-not-guard_same.false-raw) (c.limits_same.ensures ∙ rw c.limit_count.ensures)
+    and_yes (held c.guard_same.ensures c.if-not-guard_same.false) (c.limits_same.ensures ∙ rw c.limit_count.ensures)

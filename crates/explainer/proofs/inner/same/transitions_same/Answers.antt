@@ -1,24 +1,12 @@
-use native.Mathlib.Omega.{arith}
 use borrow.Author.Rules.{rules}
-use Rattle.laws.proofs.BelowLaws.{all_none}
-use Rattle.graph_tables.proofs.FormedLaws.{turn_fails, turn_holds, turns_end}
+use Rattle.std.proofs.lemmas.Iterator.{serves_from_Range}
+use Rattle.laws.proofs.Chains.{all_in_range}
+use Rattle.explainer.specs.Same.{transition_same}
 use Rattle.explainer.proofs.inner.same.transitions_same.Goals as goal
 
-pub loop-k-init : goal.loop-k-init
-loop-k-init c = (search rules, all_none _)
-
-pub transition_same-requires : goal.transition_same-requires
-transition_same-requires c =
-    (c.requires.0, c.requires.1, c.requires.2, c.requires.3, omega (arith, c.transition_count-k-end.ensures))
-
-pub returns-then-not-transition_same : goal.returns-then-not-transition_same
-returns-then-not-transition_same c =
-    turn_fails _ _ c.loop-k.k (omega (arith, c.transition_count-k-end.ensures)) c.transition_same.ensures c.if-not-transition_same.true-raw
-
-pub loop-k-preserved : goal.loop-k-preserved
-loop-k-preserved c =
-    turn_holds _ _ c.loop-k.k (omega arith) c.loop-k.invariant.1 c.transition_same.ensures c.if-not-transition_same.false-raw
+pub all-requires-clause-callable : goal.all-requires-clause-callable
+all-requires-clause-callable c =
+    serves_from_Range (λ x b k. search rules) (λ i m h. let known = rw c.transition_count.ensures at h in search rules)
 
 pub returns : goal.returns
-returns c =
-    turns_end _ _ c.loop-k.k (omega (arith, c.transition_count-k-end.ensures)) (omega (arith, c.transition_count-k-end.ensures)) c.loop-k.invariant.1
+returns c = rw c.transition_count.ensures at (all_in_range (transition_same c.args.t.now c.args.guards.now c.args.limits.now c.args.g) c.transition_count.result c.all.ensures.ran (λ x b t k. search rules))

@@ -140,7 +140,7 @@ returns-then-not-truth c =
     let s = l.before.before in
     no_more s.args.words.now s.args.from s.args.n _ s.requires.1 s.requires.0 l.loop-at.invariant (omega arith) e.if-w-lt-DRAW.false none
     (no_item _ (omega (arith, e.if-w-lt-DRAW.false, d.if-w-eq-DRAW.false)) v.if-w-eq-VARIABLE.false (sym n.number.ensures ∙ g.if-number.false)
-    (failed a.truth.ensures c.if-not-truth.true-raw)) refl
+    (failed a.truth.ensures c.if-not-truth.true)) refl
 
 pub loop-at-preserved : goal.loop-at-preserved
 loop-at-preserved c =
@@ -155,7 +155,7 @@ loop-at-preserved c =
     let s = l.before.before in
     one_more s.args.words.now s.args.from s.args.n _ s.requires.1 s.requires.0 l.loop-at.invariant (omega arith) e.if-w-lt-DRAW.false
     f.if-waiting-ge-FULL.false (constant (Boolean (eqb ((get_or s.args.words.now l.loop-at.at 0) / 256) 1))) 0 _ _
-    (truth_item_lem _ (held a.truth.ensures c.if-not-truth.false-raw)) (lit< tt) refl (omega arith) (omega arith)
+    (truth_item_lem _ (held a.truth.ensures c.if-not-truth.false)) (lit< tt) refl (omega arith) (omega arith)
 
 pub returns-then-waiting-gt2 : goal.returns-then-waiting-gt2
 returns-then-waiting-gt2 c =

@@ -2,7 +2,7 @@ use Rattle.grammar.proofs.HeldLaws.{held_integer}
 use Rattle.grammar.proofs.Signed.{wide, cast_fits, wide_is}
 use Rattle.grammar.proofs.WholeLaws.{Waits, waits}
 use Rattle.grammar.specs.declared.values.Val.TheVariants.{Integer}
-use Rattle.grammar.specs.declared.evaluation.Evaluated.TheVariants.{Known}
+use Rattle.std.specs.Prelude.{Some}
 use lib.IntN.{ℤ, pos, ◌+ℤ◌}
 use mir.Syntax.{w64}
 use mir.Val.{of_z, to_z}
@@ -29,7 +29,7 @@ pub overflow_cast-result-2 : goal.overflow_cast-result-2
 overflow_cast-result-2 c = rw (rest (goal.at.overflow_cast-result-2 c).Start) (tt, record { fits = omega (arith, (waiting (goal.at.overflow_cast-result-2 c).Start).small) })
 
 pub returns : goal.returns
-returns c = rw (rest (goal.at.returns c).Start) (held_integer (waiting (goal.at.returns c).Start).x (waiting (goal.at.returns c).Start).small ∙ ap (λ (z : ℤ). Known (Integer z)) (waiting (goal.at.returns c).Start).back)
+returns c = rw (rest (goal.at.returns c).Start) (held_integer (waiting (goal.at.returns c).Start).x (waiting (goal.at.returns c).Start).small ∙ ap (λ (z : ℤ). Some (Integer z)) (waiting (goal.at.returns c).Start).back)
 
 pub overflow_cast-result : goal.overflow_cast-result
 overflow_cast-result c =

@@ -6,6 +6,3 @@ use Rattle.graph_edits.proofs.inner.rows.place.Given as goal
 abbrev pub invariant-loop-i : goal.invariant-loop-i
 invariant-loop-i l =
     (l.i ≤ l.n) × ((l.at ≡ l.base + l.w * l.i) × (place_of (number_at l.t l.base l.w) l.n l.k ≡ place_from (number_at l.t l.base l.w) l.k l.i (l.n - l.i)))
-
-abbrev pub decreases-loop-i : goal.decreases-loop-i
-decreases-loop-i l = l.n - l.i

@@ -7,20 +7,20 @@ use Rattle.program_graph.proofs.inner.by_value.receive.Goals as goal
 
 pub store-requires : goal.store-requires
 store-requires c =
-    (refl, omega (arith, variables_same c.args.t.now c.args.run c.requires.1, c.requires.0.counts.variables))
+    (refl, omega (arith, variables_same c.args.t.now c.args.run.now c.requires.1, c.requires.0.counts.variables))
 
 pub receive_on-answer-requires : goal.receive_on-answer-requires
 receive_on-answer-requires c =
-    (c.requires.0, stored_run c.args.t.now c.args.run c.store.new.r c.requires.0 c.requires.1 c.store.ensures)
+    (c.requires.0, stored_run c.args.t.now c.args.run.now c.store.new.r c.requires.0 c.requires.1 c.store.ensures)
 
 pub load-requires : goal.load-requires
 load-requires c =
     let did = c.receive_on-answer.ensures in
     let small =
-    received_small c.args.t.now c.args.run c.store.new.r c.requires.0 c.requires.1 c.store.ensures c.args.action
+    received_small c.args.t.now c.args.run.now c.store.new.r c.requires.0 c.requires.1 c.store.ensures c.args.action
     c.args.posts.now _ c.args.message _ did in (
       did.1.words,
-      omega (arith, variables_same c.args.t.now c.args.run c.requires.1, c.requires.0.counts.variables),
+      omega (arith, variables_same c.args.t.now c.args.run.now c.requires.1, c.requires.0.counts.variables),
       small.0,
       small.1,
     )
@@ -28,5 +28,5 @@ load-requires c =
 pub returns : goal.returns
 returns c =
     ap (λ (y : ProgramGraphRun). record { answer = c.receive_on-answer.result; run = y }) c.load.ensures
-    ∙ received_back c.args.t.now c.args.run c.store.new.r c.requires.0 c.requires.1 c.store.ensures c.args.action
+    ∙ received_back c.args.t.now c.args.run.now c.store.new.r c.requires.0 c.requires.1 c.store.ensures c.args.action
     c.args.posts.now _ c.args.message _ c.receive_on-answer.ensures

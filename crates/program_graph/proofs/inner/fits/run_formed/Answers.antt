@@ -21,25 +21,25 @@ variables_same t run h = eqb-true _ _ (and_first _ _ (and_rest _ _ h))
 
 pub returns-then-not-counts_same : goal.returns-then-not-counts_same
 unfolding run_formed
-returns-then-not-counts_same c = and_no _ (failed c.counts_same.ensures c.if-not-counts_same.true-raw)
+returns-then-not-counts_same c = and_no _ (failed c.counts_same.ensures c.if-not-counts_same.true)
 
 pub places_known-requires : goal.places_known-requires
 places_known-requires c =
-    let same = held c.counts_same.ensures c.if-not-counts_same.false-raw in
+    let same = held c.counts_same.ensures c.if-not-counts_same.false in
     (c.requires, omega (arith, c.requires.counts.processes, processes_same _ _ same))
 
 pub returns-then-not-places_known : goal.returns-then-not-places_known
 unfolding run_formed
 returns-then-not-places_known c =
-    and_yes (held c.counts_same.ensures c.if-not-counts_same.false-raw) (and_no _ (failed c.places_known.ensures c.if-not-places_known.true-raw))
+    and_yes (held c.counts_same.ensures c.if-not-counts_same.false) (and_no _ (failed c.places_known.ensures c.if-not-places_known.true))
 
 pub vars_fit-requires : goal.vars_fit-requires
 vars_fit-requires c =
-    let same = held c.counts_same.ensures c.if-not-counts_same.false-raw in
+    let same = held c.counts_same.ensures c.if-not-counts_same.false in
     (c.requires, omega (arith, c.requires.counts.variables, variables_same _ _ same))
 
 pub returns : goal.returns
 unfolding run_formed
 returns c =
-    and_yes (held c.counts_same.ensures c.if-not-counts_same.false-raw)
-    (and_yes (held c.places_known.ensures c.if-not-places_known.false-raw) c.vars_fit.ensures)
+    and_yes (held c.counts_same.ensures c.if-not-counts_same.false)
+    (and_yes (held c.places_known.ensures c.if-not-places_known.false) c.vars_fit.ensures)

@@ -5,22 +5,22 @@ use Rattle.program_graph.proofs.inner.fits.run_words_fit.Goals as goal
 
 pub returns-then-not-word_counts_same : goal.returns-then-not-word_counts_same
 unfolding run_words_fit
-returns-then-not-word_counts_same c = and_no _ (failed c.word_counts_same.ensures c.if-not-word_counts_same.true-raw)
+returns-then-not-word_counts_same c = and_no _ (failed c.word_counts_same.ensures c.if-not-word_counts_same.true)
 
 pub returns-then-not-all_places_known : goal.returns-then-not-all_places_known
 unfolding run_words_fit
 returns-then-not-all_places_known c =
-    and_yes (held c.word_counts_same.ensures c.if-not-word_counts_same.false-raw) (and_no _ (failed c.all_places_known.ensures c.if-not-all_places_known.true-raw))
+    and_yes (held c.word_counts_same.ensures c.if-not-word_counts_same.false) (and_no _ (failed c.all_places_known.ensures c.if-not-all_places_known.true))
 
 pub returns-then-not-all_vars_fit : goal.returns-then-not-all_vars_fit
 unfolding run_words_fit
 returns-then-not-all_vars_fit c =
-    and_yes (held c.word_counts_same.ensures c.if-not-word_counts_same.false-raw)
-    (and_yes (held c.all_places_known.ensures c.if-not-all_places_known.false-raw) (and_no _ (failed c.all_vars_fit.ensures c.if-not-all_vars_fit.true-raw)))
+    and_yes (held c.word_counts_same.ensures c.if-not-word_counts_same.false)
+    (and_yes (held c.all_places_known.ensures c.if-not-all_places_known.false) (and_no _ (failed c.all_vars_fit.ensures c.if-not-all_vars_fit.true)))
 
 pub returns : goal.returns
 unfolding run_words_fit
 returns c =
-    and_yes (held c.word_counts_same.ensures c.if-not-word_counts_same.false-raw)
-    (and_yes (held c.all_places_known.ensures c.if-not-all_places_known.false-raw)
-    (and_yes (held c.all_vars_fit.ensures c.if-not-all_vars_fit.false-raw) c.all_clocks_fit.ensures))
+    and_yes (held c.word_counts_same.ensures c.if-not-word_counts_same.false)
+    (and_yes (held c.all_places_known.ensures c.if-not-all_places_known.false)
+    (and_yes (held c.all_vars_fit.ensures c.if-not-all_vars_fit.false) c.all_clocks_fit.ensures))

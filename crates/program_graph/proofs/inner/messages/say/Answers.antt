@@ -1,9 +1,10 @@
+use borrow.Author.Tests.{not-true, not-false}
+use Rattle.std.specs.Prelude.{Ok, Err}
+use Rattle.graph_tables.specs.Refusals.{refusal}
 use mathlib.Core.Path.{refl, ap, ◌∙◌}
-use Rattle.program_graph.specs.declared.inner.messages.Said.{Said}
 use Rattle.run_steps.specs.declared.inner.messages.Speech.{Speech}
 use Rattle.run_steps.proofs.VarLaws.{vars_same}
 use Rattle.laws.proofs.Tests.{held, failed}
-use Rattle.graph_tables.specs.declared.answers.Done.TheVariants as Done
 use Rattle.program_graph.specs.Messaging.{said_of}
 use Rattle.program_graph.specs.Inner.{DidSend}
 use Rattle.program_graph.proofs.LeaveLaws.{rung_stopped, rung_passed, leaves_same, few_places, leaves_moved}
@@ -12,14 +13,9 @@ use Rattle.program_graph.proofs.inner.messages.say.Goals as goal
 pub returns-then-not-spoken : goal.returns-then-not-spoken
 unfolding said_of
 returns-then-not-spoken c =
-    let none = failed (ap (λ (x : Speech). x.fits) c.spoken-spoken.ensures) c.if-not-spoken.true in
-    rung_stopped (DidSend c.args.t.now c.args.r.now c.not_said.result c.args.r.now) _ _ none
-    (record {
-      answer = ap (λ (x : Said). x.answer) c.not_said.ensures;
-      message = ap (λ (x : Said). x.message)
-          c.not_said.ensures;
-      words = leaves_same c.args.t.now c.args.r.now c.requires.1;
-    })
+    let none = failed (ap (λ (x : Speech). x.fits) c.spoken-spoken.ensures) (not-true _ c.if-not-spoken.true) in
+    rung_stopped (DidSend c.args.t.now c.args.r.now (Err (refusal 26)) c.args.r.now) _ _ none
+    (record { answer = refl; message = refl; words = leaves_same c.args.t.now c.args.r.now c.requires.1 })
 
 pub move_to-requires : goal.move_to-requires
 move_to-requires c =
@@ -28,10 +24,10 @@ move_to-requires c =
 pub returns : goal.returns
 unfolding said_of
 returns c =
-    let all = held (ap (λ (x : Speech). x.fits) c.spoken-spoken.ensures) c.if-not-spoken.false in
+    let all = held (ap (λ (x : Speech). x.fits) c.spoken-spoken.ensures) (not-false _ c.if-not-spoken.false) in
     let spoken = c.spoken-spoken.ensures in
     let count = c.effect_count-count.ensures in
-    rung_passed (DidSend c.args.t.now c.args.r.now (record { answer = Done.Accepted; message = c.message-message.result })
+    rung_passed (DidSend c.args.t.now c.args.r.now (Ok c.message-message.result)
     c.move_to.new.r) _ _ all
     (record {
       answer = refl;

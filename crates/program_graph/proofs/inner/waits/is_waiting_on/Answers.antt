@@ -10,7 +10,7 @@ use Rattle.program_graph.proofs.LeaveLaws.{few_places, lent_known, waiting_lent}
 use Rattle.program_graph.proofs.inner.waits.is_waiting_on.Goals as goal
 
 pub returns-then-not-can_wait_on : goal.returns-then-not-can_wait_on
-returns-then-not-can_wait_on c = and_no _ (failed c.can_wait_on.ensures c.if-not-can_wait_on.true-raw)
+returns-then-not-can_wait_on c = and_no _ (failed c.can_wait_on.ensures c.if-not-can_wait_on.true)
 
 pub overflow_add-n : goal.overflow_add-n
 overflow_add-n c =
@@ -36,5 +36,5 @@ returns c =
     let n = run_processes c.args.r.now in
     let e : 3 + n - 3 ≡ n = omega arith in
     let given = rw e at c.waiting.ensures in
-    and_yes (held c.can_wait_on.ensures c.if-not-can_wait_on.false-raw)
+    and_yes (held c.can_wait_on.ensures c.if-not-can_wait_on.false)
     (given ∙ waiting_lent c.args.t.now c.args.r.now c.requires.0 c.requires.1 n refl _)

@@ -6,8 +6,8 @@ use Rattle.program_graph.proofs.record.ProgramGraphRun.current_states.Goals as g
 
 pub returns-then-not-fits_table : goal.returns-then-not-fits_table
 unfolding states_of
-returns-then-not-fits_table c = stopped _ _ (failed c.fits_table.ensures c.if-not-fits_table.true-raw)
+returns-then-not-fits_table c = stopped _ _ (failed c.fits_table.ensures c.if-not-fits_table.true)
 
 pub returns : goal.returns
 unfolding states_of
-returns c = passed _ (held c.fits_table.ensures c.if-not-fits_table.false-raw) refl
+returns c = passed _ (held c.fits_table.ensures c.if-not-fits_table.false) refl

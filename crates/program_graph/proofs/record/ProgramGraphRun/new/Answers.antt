@@ -9,12 +9,12 @@ use Rattle.program_graph.proofs.record.ProgramGraphRun.new.Goals as goal
 pub returns-then-not-well_formed : goal.returns-then-not-well_formed
 unfolding new_run_of
 returns-then-not-well_formed c =
-    rw c.no_run.ensures (stopped _ _ (failed c.well_formed-2.ensures c.if-not-well_formed.true-raw))
+    stopped _ _ (failed c.well_formed-2.ensures c.if-not-well_formed.true)
 
 pub fresh-requires : goal.fresh-requires
-fresh-requires c = sound _ false (held c.well_formed-2.ensures c.if-not-well_formed.false-raw)
+fresh-requires c = sound _ false (held c.well_formed-2.ensures c.if-not-well_formed.false)
 
 pub returns : goal.returns
 unfolding new_run_of
 returns c =
-    rw c.fresh.ensures (passed _ (held c.well_formed-2.ensures c.if-not-well_formed.false-raw) refl)
+    rw c.fresh.ensures (passed _ (held c.well_formed-2.ensures c.if-not-well_formed.false) refl)

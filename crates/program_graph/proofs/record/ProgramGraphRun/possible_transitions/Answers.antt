@@ -6,11 +6,11 @@ use Rattle.program_graph.proofs.record.ProgramGraphRun.possible_transitions.Goal
 
 pub returns-then-not-fits_table : goal.returns-then-not-fits_table
 unfolding possible_of
-returns-then-not-fits_table c = stopped _ _ (failed c.fits_table.ensures c.if-not-fits_table.true-raw)
+returns-then-not-fits_table c = stopped _ _ (failed c.fits_table.ensures c.if-not-fits_table.true)
 
 pub entry-requires : goal.entry-requires
-entry-requires c = fitting _ _ (held c.fits_table.ensures c.if-not-fits_table.false-raw)
+entry-requires c = fitting _ _ (held c.fits_table.ensures c.if-not-fits_table.false)
 
 pub returns : goal.returns
 unfolding possible_of
-returns c = passed _ (held c.fits_table.ensures c.if-not-fits_table.false-raw) c.entry.ensures
+returns c = passed _ (held c.fits_table.ensures c.if-not-fits_table.false) c.entry.ensures

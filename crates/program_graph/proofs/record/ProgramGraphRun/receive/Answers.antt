@@ -6,11 +6,11 @@ use Rattle.program_graph.proofs.record.ProgramGraphRun.receive.Goals as goal
 
 pub returns-then-not-fits_table : goal.returns-then-not-fits_table
 unfolding receive_of
-returns-then-not-fits_table c = stopped _ _ (failed c.fits_table.ensures c.if-not-fits_table.true-raw)
+returns-then-not-fits_table c = stopped _ _ (failed c.fits_table.ensures c.if-not-fits_table.true)
 
 pub receive-requires : goal.receive-requires
-receive-requires c = fitting _ _ (held c.fits_table.ensures c.if-not-fits_table.false-raw)
+receive-requires c = fitting _ _ (held c.fits_table.ensures c.if-not-fits_table.false)
 
 pub returns : goal.returns
 unfolding receive_of
-returns c = passed _ (held c.fits_table.ensures c.if-not-fits_table.false-raw) c.receive.ensures
+returns c = passed _ (held c.fits_table.ensures c.if-not-fits_table.false) c.receive.ensures

@@ -6,11 +6,11 @@ use Rattle.program_graph.proofs.record.ProgramGraphRun.wait.Goals as goal
 
 pub returns-then-not-fits_table : goal.returns-then-not-fits_table
 unfolding wait_of
-returns-then-not-fits_table c = stopped _ _ (failed c.fits_table.ensures c.if-not-fits_table.true-raw)
+returns-then-not-fits_table c = stopped _ _ (failed c.fits_table.ensures c.if-not-fits_table.true)
 
 pub wait-requires : goal.wait-requires
-wait-requires c = fitting _ _ (held c.fits_table.ensures c.if-not-fits_table.false-raw)
+wait-requires c = fitting _ _ (held c.fits_table.ensures c.if-not-fits_table.false)
 
 pub returns : goal.returns
 unfolding wait_of
-returns c = passed _ (held c.fits_table.ensures c.if-not-fits_table.false-raw) c.wait.ensures
+returns c = passed _ (held c.fits_table.ensures c.if-not-fits_table.false) c.wait.ensures

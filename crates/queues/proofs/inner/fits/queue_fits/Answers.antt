@@ -11,7 +11,7 @@ use Rattle.queues.proofs.inner.fits.queue_fits.Goals.{Else-ceiling-n, Else-not-c
 
 -- what is known once the counts, the ceiling and the whole messages are found
 counts : (c : Else-not-counts_fit) → counts_fit c.args.q.now ≡ true
-counts c = held c.counts_fit.ensures c.if-not-counts_fit.false-raw
+counts c = held c.counts_fit.ensures c.if-not-counts_fit.false
 
 low : (c : Else-ceiling-n) →
     let a = c.args in
@@ -22,11 +22,11 @@ low c =
 
 whole : (c : Else-not-whole_messages) →
     whole_messages (length c.args.kinds.now) (stored_of c.args.q.now) ≡ true
-whole c = rw c.stored-n.ensures at (held c.whole_messages.ensures c.if-not-whole_messages.false-raw)
+whole c = rw c.stored-n.ensures at (held c.whole_messages.ensures c.if-not-whole_messages.false)
 
 pub returns-then-not-counts_fit : goal.returns-then-not-counts_fit
 unfolding queue_fits
-returns-then-not-counts_fit c = and_no _ (failed c.counts_fit.ensures c.if-not-counts_fit.true-raw)
+returns-then-not-counts_fit c = and_no _ (failed c.counts_fit.ensures c.if-not-counts_fit.true)
 
 pub stored-n-requires : goal.stored-n-requires
 stored-n-requires c = fits_counted _ c.requires (counts (goal.at.stored-n-requires c).Else-not-counts_fit)
@@ -43,7 +43,7 @@ unfolding queue_fits
 returns-then-not-whole_messages c =
     let e = c.stored-n.ensures in
     and_yes (counts (goal.at.returns-then-not-whole_messages c).Else-not-counts_fit)
-    (and_yes (low (goal.at.returns-then-not-whole_messages c).Else-ceiling-n) (and_no _ (rw e at (failed c.whole_messages.ensures c.if-not-whole_messages.true-raw))))
+    (and_yes (low (goal.at.returns-then-not-whole_messages c).Else-ceiling-n) (and_no _ (rw e at (failed c.whole_messages.ensures c.if-not-whole_messages.true))))
 
 pub slots_fit-requires : goal.slots_fit-requires
 slots_fit-requires c =

@@ -6,4 +6,4 @@ use Rattle.queues.proofs.inner.ring.value_at.Goals as goal
 pub returns : goal.returns
 returns c =
     let e = queue_at _ _ c.requires.1 in
-    c.value_of.ensures ∙ rw (c.kind_at.ensures, c.payload_at.ensures) (ap (λ (v : Slot). v.value) (sym e))
+    c.value_of.ensures ∙ rw (c.words_at-kind.ensures.0, c.words_at-kind.ensures.1) (ap (λ (v : Slot). v.value) (sym e))

@@ -6,6 +6,3 @@ use Rattle.recordings.proofs.inner.numbers.number.Given as goal
 
 abbrev pub invariant-loop-k : goal.invariant-loop-k
 invariant-loop-k l = (l.k ≤ l.n) × (l.x ≡ number_at l.bytes (l.at + l.k) (l.n - l.k)) × (l.x < byte ^ (l.n - l.k))
-
-abbrev pub decreases-loop-k : goal.decreases-loop-k
-decreases-loop-k l = l.k

@@ -11,10 +11,10 @@ returns-then-r-ne0 c = and_no _ (ne_eqb _ _ c.if-r-ne0.true)
 pub returns-then-not-zeros : goal.returns-then-not-zeros
 unfolding good_record
 returns-then-not-zeros c =
-    and_yes (eq-eqb _ _ c.if-r-ne0.false) (and_no _ (failed c.zeros.ensures c.if-not-zeros.true-raw))
+    and_yes (eq-eqb _ _ c.if-r-ne0.false) (and_no _ (failed c.zeros.ensures c.if-not-zeros.true))
 
 pub returns : goal.returns
 unfolding good_record
 returns c =
     and_yes (eq-eqb _ _ c.if-r-ne0.false)
-    (and_yes (held c.zeros.ensures c.if-not-zeros.false-raw) c.good_kind.ensures)
+    (and_yes (held c.zeros.ensures c.if-not-zeros.false) c.good_kind.ensures)

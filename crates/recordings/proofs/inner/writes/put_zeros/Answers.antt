@@ -1,25 +1,13 @@
-use Prim.Native.Nat.{◌+◌, ◌-◌}
-use mathlib.Core.Path.{◌≡◌, refl, ◌∙◌}
-use native.Mathlib.Omega.{arith}
-use lib.ListN.{length-set}
-use borrow.Author.Rules.{rules}
-use Rattle.recordings.proofs.StoreLaws.{zero_store}
+use Rattle.std.proofs.Common.{◌+◌, ◌-◌, ◌≡◌, replicate, arith}
+use Rattle.std.proofs.lemmas.List.{length-replicate}
+use Rattle.recordings.proofs.PartLaws.{length_part}
+use Rattle.recordings.proofs.StoreLaws.{part_written}
 use Rattle.recordings.proofs.inner.writes.put_zeros.Goals as goal
-
-pub loop-k-init : goal.loop-k-init
-loop-k-init c =
-    let s : c.args.at + 0 ≡ c.args.at = omega arith in
-    let e : c.args.n - 0 ≡ c.args.n = omega arith in
-    (search rules, refl, rw (s, e) refl)
-
-pub loop-k-preserved : goal.loop-k-preserved
-loop-k-preserved c = (
-  omega arith,
-  simp length-set c.loop-k.invariant.1,
-  zero_store c.loop-k.bytes c.args.at c.loop-k.k c.args.n (omega arith) ∙ c.loop-k.invariant.2,
-)
 
 pub returns : goal.returns
 returns c =
-    let e : c.args.n - c.loop-k.k ≡ 0 = omega arith in
-    rw e at c.loop-k.invariant.2
+    let at = c.args.at in
+    let n = c.args.n in
+    let e : at + n - at ≡ n = omega arith in
+    let all = rw (e, length_part c.args.bytes.now at n c.requires) at (c.fill.ensures.after (λ y k. k)) in
+    part_written c.args.bytes.now _ (replicate n 0) at n c.requires all (length-replicate n 0)

@@ -1,10 +1,11 @@
 use Prim.Native.Nat.{ℕ, ◌+◌, ◌-◌}
-use mathlib.Core.Path.{sym, ap, ◌∙◌, subst}
+use mathlib.Core.Path.{◌≡◌, sym, ap, ◌∙◌, subst}
 use mathlib.Core.List.{List}
 use native.Mathlib.Omega.{arith}
 use lib.ListN.{length}
 use borrow.Author.Rules.{rules}
-use Rattle.laws.proofs.Tests.{held, failed}
+use Rattle.std.specs.Prelude.{Err}
+use Rattle.std.proofs.lemmas.Result.{err_from_is_err_and}
 use Rattle.recordings.specs.Blocks.{blocks_in}
 use Rattle.replays.specs.Facts.{Ready}
 use Rattle.replays.specs.Replay.{Played, is_finished, stepped_by, block_played, blocks_played}
@@ -21,18 +22,19 @@ loop-b-init c =
       blocks_start x.t.now x.bytes.now (blocks_in (length x.bytes.now)) x.s.now,
     )
 
-pub play_block-r-requires : goal.play_block-r-requires
-play_block-r-requires c =
+pub play_block-requires : goal.play_block-requires
+play_block-requires c =
     (c.loop-b.invariant.2, omega (arith, c.loop-b-test.true, c.loop-b.invariant.1), c.loop-b.invariant.3)
 
-pub returns-then-not-is_finished : goal.returns-then-not-is_finished
-returns-then-not-is_finished c =
+pub returns-in_err-done : goal.returns-in_err-done
+returns-in_err-done c =
+    let p = err_from_is_err_and c.from_residual.result c.from_residual.ensures.1 in
     let x = c.args in
     let bytes = x.bytes.now in
-    let not_yet = failed (c.is_finished.ensures ∙ ap is_finished c.play_block-r.ensures.0) c.if-not-is_finished.true-raw in
+    let not_yet = ap is_finished (sym c.play_block.ensures.0 ∙ c.in_err-done.was) in
     let e = sym c.loop-b.invariant.4 ∙ blocks_found x.t.now bytes (blocks_in (length bytes)) c.loop-b.s c.loop-b.b c.loop-b.done
     (omega (arith, c.loop-b-test.true, c.loop-b.invariant.1)) not_yet in
-    (c.play_block-r.ensures.0 ∙ sym (ap (λ (p : Played). p.answer) e), c.play_block-r.ensures.1 ∙ sym (ap (λ (p : Played). p.state) e))
+    (p.1 ∙ ap Err p.2 ∙ sym c.in_err-done.was ∙ c.play_block.ensures.0 ∙ sym (ap (λ (p : Played). p.answer) e), c.play_block.ensures.1 ∙ sym (ap (λ (p : Played). p.state) e))
 
 pub loop-b-preserved : goal.loop-b-preserved
 loop-b-preserved c =
@@ -43,15 +45,15 @@ loop-b-preserved c =
     let s = c.loop-b.s in
     let b = c.loop-b.b in
     let done = c.loop-b.done in
-    let yes = held (c.is_finished.ensures ∙ ap is_finished c.play_block-r.ensures.0) c.if-not-is_finished.false-raw in
-    let left = c.play_block-r.ensures.1 in
-    let many = c.stepped_by-done.ensures ∙ ap stepped_by c.play_block-r.ensures.0 in
+    let yes = ap is_finished (sym c.play_block.ensures.0 ∙ c.in_ok-done.was) in
+    let left = c.play_block.ensures.1 in
+    let many : c.in_ok-done.done ≡ stepped_by (block_played t s bytes b done).answer = ap stepped_by (sym c.in_ok-done.was ∙ c.play_block.ensures.0) in
     let turn = blocks_turn t bytes n s b done (omega (arith, c.loop-b-test.true, c.loop-b.invariant.1)) yes in (
       omega (arith, c.loop-b-test.true),
       c.loop-b.invariant.1,
       subst (Ready t) (sym left) (block_ready t s bytes b done c.loop-b.invariant.2),
       omega (arith, many, block_few t s bytes b done yes, c.loop-b.invariant.3),
-      ap (λ (u : List ℕ). blocks_played t u bytes (b + 1) c.stepped_by-done.result (n - (b + 1))) left
+      ap (λ (u : List ℕ). blocks_played t u bytes (b + 1) c.in_ok-done.done (n - (b + 1))) left
           ∙ (ap (λ (k : ℕ). blocks_played t (block_played t s bytes b done).state bytes (b + 1) k (n - (b + 1))) many
           ∙ (sym turn ∙ c.loop-b.invariant.4)),
     )

@@ -30,7 +30,7 @@ returns-then-not-good_block c =
     let x = c.args in
     let bytes = x.bytes.now in
     let e = block_bad x.t.now x.s.now bytes x.b x.done
-    (failed (c.good_block.ensures ∙ block_tested bytes x.b) c.if-not-good_block.true-raw) in
+    (failed (c.good_block.ensures ∙ block_tested bytes x.b) c.if-not-good_block.true) in
     (sym (ap (λ (p : Played). p.answer) e), sym (ap (λ (p : Played). p.state) e))
 
 pub play_records-requires : goal.play_records-requires
@@ -38,7 +38,7 @@ play_records-requires c =
     let bytes = c.args.bytes.now in
     let b = c.args.b in
     let cut = block_cut bytes b in
-    let good = good_parts (block_at bytes b) b (last_at bytes b) (held (c.good_block.ensures ∙ block_tested bytes b) c.if-not-good_block.false-raw) in (
+    let good = good_parts (block_at bytes b) b (last_at bytes b) (held (c.good_block.ensures ∙ block_tested bytes b) c.if-not-good_block.false) in (
       c.requires.0,
       ap length cut ∙ good.size,
       subst (λ (l : List ℕ). count_in l ≤ 15) (sym cut) good.count,
@@ -54,7 +54,7 @@ returns c =
     let s = x.s.now in
     let bytes = x.bytes.now in
     let b = x.b in
-    let good = held (c.good_block.ensures ∙ block_tested bytes b) c.if-not-good_block.false-raw in
+    let good = held (c.good_block.ensures ∙ block_tested bytes b) c.if-not-good_block.false in
     let same = ap (λ (l : List ℕ). records_played t s b 0 x.done (entries_of l)) (block_cut bytes b)
     ∙ sym (block_good t s bytes b x.done good) in (
       c.play_records.ensures.0 ∙ ap (λ (p : Played). p.answer) same,

@@ -1,3 +1,4 @@
+use Rattle.std.specs.Prelude.{Ok}
 use Prim.Native.Nat.{ℕ, ◌+◌, ◌-◌}
 use mathlib.Core.Path.{◌≡◌, sym, ap, ◌∙◌}
 use native.Mathlib.Omega.{arith}
@@ -10,7 +11,6 @@ use Rattle.recordings.specs.Records.{entry_of, good_record}
 use Rattle.recordings.specs.Blocks.{record_part, entry_at}
 use Rattle.recordings.proofs.RecordLaws.{recorded_in_lem}
 use Rattle.recordings.proofs.BlockLaws.{slot_good}
-use Rattle.replays.specs.declared.answers.Replayed.TheVariants.{Finished}
 use Rattle.replays.specs.Facts.{Ready}
 use Rattle.replays.specs.Replay.{given_to, after_entry, Played, records_played}
 use Rattle.replays.proofs.PlayLaws.{after_ready, records_start, records_turn, records_found, records_over, as_found}
@@ -72,4 +72,4 @@ returns c =
     let whole : n ≡ i = omega (arith, c.loop-i-test.false, c.loop-i.invariant.0) in
     let over = sym c.loop-i.invariant.2
     ∙ records_over x.t.now x.b x.done (entry_at block) n c.loop-i.s i (omega (arith, whole)) in
-    (ap (λ (k : ℕ). Finished (x.done + k)) whole ∙ sym (ap (λ (p : Played). p.answer) over), sym (ap (λ (p : Played). p.state) over))
+    (ap (λ (k : ℕ). Ok (x.done + k)) whole ∙ sym (ap (λ (p : Played). p.answer) over), sym (ap (λ (p : Played). p.state) over))

@@ -3,21 +3,20 @@ use mathlib.Core.Path.{◌≡◌, ap, ◌∙◌}
 use native.Mathlib.Omega.{arith}
 use lib.ListN.{get_or}
 use lib.ListN.{take}
-use Rattle.graph_tables.specs.Answers.{done_number}
+use Rattle.graph_tables.specs.Answers.{answer_number}
 use Rattle.channel_system.specs.Steps.{Moved}
-use Rattle.channel_system.specs.declared.answers.Stepped.{Stepped}
 use Rattle.channel_system.proofs.SystemChains.{formed_sound}
 use Rattle.recordings.specs.Numbers.{row}
 use Rattle.recordings.specs.Records.{amount_in, post_in, word_in}
 use Rattle.replays.specs.Replay.{post_words}
-use Rattle.replays.proofs.PlayLaws.{step_made}
+use Rattle.replays.proofs.PlayLaws.{carried_number, step_made}
 use Rattle.replays.proofs.inner.calls.make_step.Goals as goal
 
 pub overflow_cast-pg : goal.overflow_cast-pg
 overflow_cast-pg c = omega (arith, c.shared_slice_known-4-1.given 1)
 
-pub step-told-requires : goal.step-told-requires
-step-told-requires c =
+pub step-requires : goal.step-requires
+step-requires c =
     (formed_sound _ c.requires.0.table, c.requires.0.state)
 
 pub returns : goal.returns
@@ -31,6 +30,6 @@ returns c =
     let posts = ap (λ (k : ℕ). take k c.post_words.new.to) minus ∙ c.post_words.ensures.0 in
     let same = step_made t s c.requires.0 g (amount_in r) (post_words g (row (post_in r) 0 n)) (word_in r)
     c.amount-a.ensures posts c.word-word.ensures in (
-      c.done_number.ensures ∙ ap (λ (x : Stepped). done_number x.answer) (c.step-told.ensures.0 ∙ ap (λ (x : Moved). x.told) same),
-      c.step-told.ensures.1 ∙ ap (λ (x : Moved). x.state) same,
+      c.answer_number.ensures ∙ ap answer_number c.step.ensures.0 ∙ carried_number _ _ ∙ ap (λ (x : Moved). answer_number x.told.answer) same,
+      c.step.ensures.1 ∙ ap (λ (x : Moved). x.state) same,
     )

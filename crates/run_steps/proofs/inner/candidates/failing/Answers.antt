@@ -7,7 +7,7 @@ use Rattle.run_steps.proofs.inner.candidates.failing.Goals as goal
 
 pub returns-then-not-guard_holds : goal.returns-then-not-guard_holds
 unfolding failing_of
-returns-then-not-guard_holds c = stopped _ _ (failed c.guard_holds.ensures c.if-not-guard_holds.true-raw)
+returns-then-not-guard_holds c = stopped _ _ (failed c.guard_holds.ensures c.if-not-guard_holds.true)
 
 pub limits_hold-requires : goal.limits_hold-requires
 limits_hold-requires c =
@@ -17,8 +17,8 @@ limits_hold-requires c =
 pub returns-then-not-limits_hold : goal.returns-then-not-limits_hold
 unfolding failing_of
 returns-then-not-limits_hold c =
-    passed _ (held c.guard_holds.ensures c.if-not-guard_holds.false-raw)
-    (stopped _ _ (failed (c.limits_hold.ensures ∙ rw c.limit_count.ensures) c.if-not-limits_hold.true-raw))
+    passed _ (held c.guard_holds.ensures c.if-not-guard_holds.false)
+    (stopped _ _ (failed (c.limits_hold.ensures ∙ rw c.limit_count.ensures) c.if-not-limits_hold.true))
 
 pub invariants_hold-requires : goal.invariants_hold-requires
 invariants_hold-requires c =
@@ -27,15 +27,15 @@ invariants_hold-requires c =
 pub returns-then-not-invariants_hold : goal.returns-then-not-invariants_hold
 unfolding failing_of
 returns-then-not-invariants_hold c =
-    passed _ (held c.guard_holds.ensures c.if-not-guard_holds.false-raw)
-    (passed _ (held (c.limits_hold.ensures ∙ rw c.limit_count.ensures) c.if-not-limits_hold.false-raw)
+    passed _ (held c.guard_holds.ensures c.if-not-guard_holds.false)
+    (passed _ (held (c.limits_hold.ensures ∙ rw c.limit_count.ensures) c.if-not-limits_hold.false)
     (stopped _ _
-    (failed (c.invariants_hold.ensures ∙ rw (c.post_of.ensures, c.key_of.ensures)) c.if-not-invariants_hold.true-raw)))
+    (failed (c.invariants_hold.ensures ∙ rw (c.post_of.ensures, c.key_of.ensures)) c.if-not-invariants_hold.true)))
 
 pub returns : goal.returns
 unfolding failing_of
 returns c =
-    passed _ (held c.guard_holds.ensures c.if-not-guard_holds.false-raw)
-    (passed _ (held (c.limits_hold.ensures ∙ rw c.limit_count.ensures) c.if-not-limits_hold.false-raw)
+    passed _ (held c.guard_holds.ensures c.if-not-guard_holds.false)
+    (passed _ (held (c.limits_hold.ensures ∙ rw c.limit_count.ensures) c.if-not-limits_hold.false)
     (passed _
-    (held (c.invariants_hold.ensures ∙ rw (c.post_of.ensures, c.key_of.ensures)) c.if-not-invariants_hold.false-raw) refl))
+    (held (c.invariants_hold.ensures ∙ rw (c.post_of.ensures, c.key_of.ensures)) c.if-not-invariants_hold.false) refl))

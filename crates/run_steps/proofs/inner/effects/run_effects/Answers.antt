@@ -5,7 +5,8 @@ use native.Mathlib.Omega.{arith}
 use borrow.Author.Rules.{rules}
 use Rattle.grammar.specs.Slots.{slots_of}
 use Rattle.grammar.specs.declared.values.Slot.{Slot}
-use Rattle.grammar.specs.declared.evaluation.Evaluated.{Evaluated}
+use Rattle.std.specs.Prelude.{Option}
+use Rattle.grammar.specs.declared.values.Val.{Val}
 use Rattle.graph_tables.specs.Words.{variable_count, effect_count, effect_var}
 use Rattle.run_steps.specs.Steps.{Effected, assigned, unchanged, effects_below}
 use Rattle.run_steps.specs.Inner.{VarsLeft}
@@ -58,7 +59,7 @@ module _ (c : After-evaluate_on-evaluation) where
   known : effect_var t a e < variable_count t
   known = (((o.requires.0.action _ o.requires.1).plain o.requires.2).effect e few).var
 
-  turned : {z : Evaluated} → c.evaluate_on-evaluation.result.value ≡ z
+  turned : {z : Option Val} → c.evaluate_on-evaluation.result.value ≡ z
       → effects_below t a s (e + 1) ≡ assigned (effects_below t a s e) (effect_var t a e) z c.evaluate_on-evaluation.result.rest
   turned q =
       let i = c.loop-e.invariant in
@@ -95,7 +96,7 @@ put-requires c =
 pub loop-e-preserved : goal.loop-e-preserved
 loop-e-preserved c =
     let l = c.loop-e in
-    let q = turned (goal.at.loop-e-preserved c).After-evaluate_on-evaluation c.in-Known.is in
+    let q = turned (goal.at.loop-e-preserved c).After-evaluate_on-evaluation c.in-Some.is in
     let u = c.effect_var.ensures in (
       omega arith,
       ap (λ (r : Effected). r.fits) q ∙ l.invariant.1,

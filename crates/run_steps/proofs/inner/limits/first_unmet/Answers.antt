@@ -18,10 +18,10 @@ limit_holds-requires c =
 pub returns-then-not-limit_holds : goal.returns-then-not-limit_holds
 returns-then-not-limit_holds c =
     let l = c.loop-i in
-    sym (lowest_at _ _ l.i (omega arith) l.invariant.1 (failed c.limit_holds.ensures c.if-not-limit_holds.true-raw))
+    sym (lowest_at _ _ l.i (omega arith) l.invariant.1 (failed c.limit_holds.ensures c.if-not-limit_holds.true))
 
 pub loop-i-preserved : goal.loop-i-preserved
-loop-i-preserved c = (omega arith, all_more _ _ c.loop-i.invariant.1 (held c.limit_holds.ensures c.if-not-limit_holds.false-raw))
+loop-i-preserved c = (omega arith, all_more _ _ c.loop-i.invariant.1 (held c.limit_holds.ensures c.if-not-limit_holds.false))
 
 pub returns : goal.returns
 returns c = sym (lowest_none _ _ (all_done _ _ c.loop-i.i (omega arith) (omega arith) c.loop-i.invariant.1))

@@ -13,14 +13,14 @@ overflow_add-time c =
 pub returns-then-not-lower_met : goal.returns-then-not-lower_met
 returns-then-not-lower_met c =
     let a = c.args in
-    both_no _ (rw (c.lower_of.ensures, c.clock_of.ensures) at (failed c.lower_met.ensures c.if-not-lower_met.true-raw))
+    both_no _ (rw (c.lower_of.ensures, c.clock_of.ensures) at (failed c.lower_met.ensures c.if-not-lower_met.true))
     ∙ limit_later a.t.now a.g a.i a.clocks.now a.delta (clock_count a.t.now) c.requires.3
     (omega (arith, c.requires.0.counts.clocks, c.requires.4))
 
 pub returns : goal.returns
 returns c =
     let a = c.args in
-    both_yes (rw (c.lower_of.ensures, c.clock_of.ensures) at (held c.lower_met.ensures c.if-not-lower_met.false-raw))
+    both_yes (rw (c.lower_of.ensures, c.clock_of.ensures) at (held c.lower_met.ensures c.if-not-lower_met.false))
     (rw (c.upper_of.ensures, c.clock_of.ensures) at c.upper_met.ensures)
     ∙ limit_later a.t.now a.g a.i a.clocks.now a.delta (clock_count a.t.now) c.requires.3
     (omega (arith, c.requires.0.counts.clocks, c.requires.4))

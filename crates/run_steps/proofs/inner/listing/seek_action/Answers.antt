@@ -9,7 +9,7 @@ use Rattle.run_steps.proofs.inner.listing.seek_action.Goals as goal
 
 pub returns-then-not-is_shared : goal.returns-then-not-is_shared
 unfolding shared_entries
-returns-then-not-is_shared c = rw (failed c.is_shared.ensures c.if-not-is_shared.true-raw)
+returns-then-not-is_shared c = rw (failed c.is_shared.ensures c.if-not-is_shared.true)
 
 pub copy-requires : goal.copy-requires
 copy-requires c = sym c.requires.2
@@ -33,4 +33,4 @@ seek_processes-requires c =
 pub returns : goal.returns
 unfolding shared_entries
 returns c =
-    rw (held c.is_shared.ensures c.if-not-is_shared.false-raw) c.seek_processes.ensures
+    rw (held c.is_shared.ensures c.if-not-is_shared.false) c.seek_processes.ensures

@@ -5,7 +5,8 @@ use native.Mathlib.Omega.{arith}
 use borrow.Author.Rules.{rules}
 use Rattle.grammar.specs.Slots.{slots_of}
 use Rattle.grammar.specs.declared.values.Slot.{Slot}
-use Rattle.grammar.specs.declared.evaluation.Evaluated.{Evaluated}
+use Rattle.std.specs.Prelude.{Option}
+use Rattle.grammar.specs.declared.values.Val.{Val}
 use Rattle.graph_tables.specs.Words.{effect_count}
 use Rattle.graph_tables.specs.declared.handed.Message.{Message}
 use Rattle.run_steps.specs.Messages.{no_message, voiced, spoken_below, spoken_of}
@@ -64,7 +65,7 @@ module _ (c : After-evaluate_on-evaluation) where
   few : e < effect_count t a
   few = omega (arith, c.loop-e-test.true, c.effect_count-e-end.ensures)
 
-  turned : {z : Evaluated} → c.evaluate_on-evaluation.result.value ≡ z
+  turned : {z : Option Val} → c.evaluate_on-evaluation.result.value ≡ z
       → spoken_below t a vars s (e + 1) ≡ voiced now e z c.evaluate_on-evaluation.result.rest
   turned {z} q =
       let i = c.loop-e.invariant.1 in
@@ -84,7 +85,7 @@ bounds-values-e c =
     omega (arith, few (goal.at.bounds-values-e c).After-evaluate_on-evaluation, (((o (goal.at.bounds-values-e c).After-evaluate_on-evaluation).requires.0.action _ (o (goal.at.bounds-values-e c).After-evaluate_on-evaluation).requires.1).send (o (goal.at.bounds-values-e c).After-evaluate_on-evaluation).requires.2).few)
 
 pub loop-e-preserved : goal.loop-e-preserved
-loop-e-preserved c = (omega arith, sym (turned (goal.at.loop-e-preserved c).After-evaluate_on-evaluation c.in-Known.is))
+loop-e-preserved c = (omega arith, sym (turned (goal.at.loop-e-preserved c).After-evaluate_on-evaluation c.in-Some.is))
 
 pub returns : goal.returns
 returns c =

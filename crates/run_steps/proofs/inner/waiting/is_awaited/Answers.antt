@@ -14,11 +14,11 @@ pub returns-then-not-is_coming : goal.returns-then-not-is_coming
 unfolding awaited_of
 returns-then-not-is_coming c =
     and_yes (eq-eqb _ _ (rw (c.pre_of.ensures, c.key_of-key.ensures) at c.if-pre_of-places.false))
-    (and_no _ (failed c.is_coming.ensures c.if-not-is_coming.true-raw))
+    (and_no _ (failed c.is_coming.ensures c.if-not-is_coming.true))
 
 pub returns : goal.returns
 unfolding awaited_of
 returns c =
     let key = c.key_of-key.ensures in
     and_yes (eq-eqb _ _ (rw (c.pre_of.ensures, key) at c.if-pre_of-places.false))
-    (and_yes (held c.is_coming.ensures c.if-not-is_coming.false-raw) (c.is_shared.ensures ∙ rw (c.action_of.ensures, key)))
+    (and_yes (held c.is_coming.ensures c.if-not-is_coming.false) (c.is_shared.ensures ∙ rw (c.action_of.ensures, key)))

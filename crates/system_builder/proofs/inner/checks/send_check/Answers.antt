@@ -1,29 +1,11 @@
-use mathlib.Core.Path.{sym, ◌∙◌}
-use Rattle.graph_checks.proofs.CheckLaws.{then_on, then_stops}
-use Rattle.system_builder.specs.Messages.{send_check_on}
+use Rattle.std.proofs.Common.{sym}
 use Rattle.system_builder.proofs.MessageLaws.{known_both}
 use Rattle.system_builder.proofs.inner.checks.send_check.Goals as goal
 
-pub returns-in-Refused : goal.returns-in-Refused
-unfolding send_check_on
-returns-in-Refused c =
-    let l = c in
-    then_stops _ (sym l.known_check-check.ensures ∙ l.in-Refused.is)
-
 pub graph_at-requires : goal.graph_at-requires
-graph_at-requires c =
-    let f = known_both _ _ _ (sym c.known_check-check.ensures ∙ c.in_default.is) in
-    (f.words, f.graph)
+graph_at-requires c = let f = known_both _ _ _ (sym c.in_ok-known_check.ensures) in (f.words, f.graph)
 
 pub sent_check-requires : goal.sent_check-requires
 sent_check-requires c =
-    let e = c.before in
-    let f = known_both _ _ _ (sym e.known_check-check.ensures ∙ e.in_default.is) in
+    let f = known_both _ _ _ (sym c.in_ok-known_check.ensures) in
     (rw c.graph_at.ensures f.sound, f.words, f.channel)
-
-pub returns : goal.returns
-unfolding send_check_on
-returns c =
-    let g = c.before in
-    let e = c.before.before in
-    then_on (sym e.known_check-check.ensures ∙ e.in_default.is) (rw g.graph_at.ensures at c.sent_check.ensures)

@@ -1,10 +1,5 @@
-use Rattle.system_builder.specs.Systems.{started}
 use Rattle.system_builder.proofs.SystemLaws.{part_size}
 use Rattle.system_builder.proofs.inner.graphs.is_started.Goals as goal
 
 pub process_count-requires : goal.process_count-requires
 process_count-requires c = rw c.graph_at.ensures (part_size _ _ c.requires.0 c.requires.1)
-
-pub returns : goal.returns
-unfolding started
-returns c = rw (c.process_count.ensures, c.graph_at.ensures)

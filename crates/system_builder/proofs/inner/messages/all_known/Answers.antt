@@ -1,24 +1,8 @@
-use mathlib.Core.Path.{sym}
-use native.Mathlib.Omega.{arith}
-use borrow.Author.Rules.{rules}
-use Rattle.laws.proofs.BelowLaws.{all_none, all_more, all_fails, all_done}
-use Rattle.laws.proofs.Tests.{held, failed}
+use Rattle.std.proofs.Common.{rules}
+use Rattle.laws.proofs.Chains.{all_in_range}
+use Rattle.system_builder.specs.Messages.{sent_typed, sent_fits}
 use Rattle.system_builder.proofs.inner.messages.all_known.Goals as goal
 
-pub loop-e-init : goal.loop-e-init
-loop-e-init c = (search rules, all_none _)
-
-pub returns-then-not-is_known : goal.returns-then-not-is_known
-returns-then-not-is_known c =
-    let d = c.before in
-    let l = c.before.before.before in
-    sym (all_fails _ _ l.loop-e.e (omega arith) (failed d.is_known.ensures c.if-not-is_known.true-raw))
-
-pub loop-e-preserved : goal.loop-e-preserved
-loop-e-preserved c =
-    let d = c.before in
-    let l = c.before.before.before in
-    (omega arith, all_more _ _ l.loop-e.invariant.1 (held d.is_known.ensures c.if-not-is_known.false-raw))
-
 pub returns : goal.returns
-returns c = sym (all_done _ _ c.loop-e.e (omega arith) (omega arith) c.loop-e.invariant.1)
+unfolding sent_typed sent_fits
+returns c = all_in_range _ _ c.all.ensures.ran (λ x b t k. search rules)

@@ -16,7 +16,7 @@ returns-then-not-is_of_kind c =
     let k = c.before.before in
     let n = c.before.before.before in
     let l = c.before.before.before.before.before in
-    sym (all_fails _ _ l.loop-e.e (omega arith) (failed (rw (k.choose.ensures, n.channel_kind-kind.ensures) at d.is_of_kind.ensures) c.if-not-is_of_kind.true-raw))
+    sym (all_fails _ _ l.loop-e.e (omega arith) (failed (rw (k.choose.ensures, n.channel_kind-kind.ensures) at d.is_of_kind.ensures) c.if-not-is_of_kind.true))
 
 pub loop-e-preserved : goal.loop-e-preserved
 unfolding sent_fits
@@ -25,7 +25,7 @@ loop-e-preserved c =
     let k = c.before.before in
     let n = c.before.before.before in
     let l = c.before.before.before.before.before in
-    (omega arith, all_more _ _ l.loop-e.invariant.1 (held (rw (k.choose.ensures, n.channel_kind-kind.ensures) at d.is_of_kind.ensures) c.if-not-is_of_kind.false-raw))
+    (omega arith, all_more _ _ l.loop-e.invariant.1 (held (rw (k.choose.ensures, n.channel_kind-kind.ensures) at d.is_of_kind.ensures) c.if-not-is_of_kind.false))
 
 pub returns : goal.returns
 returns c = sym (all_done _ _ c.loop-e.e (omega arith) (omega arith) c.loop-e.invariant.1)

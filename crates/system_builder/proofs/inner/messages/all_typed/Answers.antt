@@ -15,7 +15,7 @@ returns-then-not-is_typed c =
     let d = c.before in
     let k = c.before.before in
     let l = c.before.before.before.before in
-    sym (all_fails _ _ l.loop-e.e (omega arith) (failed (rw k.choose.ensures at d.is_typed.ensures) c.if-not-is_typed.true-raw))
+    sym (all_fails _ _ l.loop-e.e (omega arith) (failed (rw k.choose.ensures at d.is_typed.ensures) c.if-not-is_typed.true))
 
 pub loop-e-preserved : goal.loop-e-preserved
 unfolding sent_typed
@@ -23,7 +23,7 @@ loop-e-preserved c =
     let d = c.before in
     let k = c.before.before in
     let l = c.before.before.before.before in
-    (omega arith, all_more _ _ l.loop-e.invariant.1 (held (rw k.choose.ensures at d.is_typed.ensures) c.if-not-is_typed.false-raw))
+    (omega arith, all_more _ _ l.loop-e.invariant.1 (held (rw k.choose.ensures at d.is_typed.ensures) c.if-not-is_typed.false))
 
 pub returns : goal.returns
 returns c = sym (all_done _ _ c.loop-e.e (omega arith) (omega arith) c.loop-e.invariant.1)

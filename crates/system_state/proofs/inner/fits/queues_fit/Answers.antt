@@ -1,25 +1,13 @@
-use native.Mathlib.Omega.{arith}
 use borrow.Author.Rules.{rules}
-use Rattle.laws.proofs.BelowLaws.{all_none, all_more}
-use Rattle.laws.proofs.Tests.{held}
-use Rattle.graph_tables.proofs.FormedLaws.{turn_fails, turns_end}
+use Rattle.std.proofs.lemmas.Iterator.{serves_from_Range}
+use Rattle.system_state.specs.Fits.{queue_fits_at}
+use Rattle.laws.proofs.Chains.{all_in_range}
 use Rattle.system_state.proofs.inner.fits.queues_fit.Goals as goal
 
-pub loop-q-init : goal.loop-q-init
-loop-q-init c = (search rules, c.channel_count-q-end.ensures, all_none _)
-
-pub queue_fits-requires : goal.queue_fits-requires
-queue_fits-requires c =
-    (c.requires.0, c.requires.1, omega (arith, c.loop-q.invariant.1))
-
-pub returns-then-not-queue_fits : goal.returns-then-not-queue_fits
-returns-then-not-queue_fits c =
-    turn_fails _ _ c.loop-q.q (omega (arith, c.loop-q.invariant.1)) c.queue_fits.ensures c.if-not-queue_fits.true-raw
-
-pub loop-q-preserved : goal.loop-q-preserved
-loop-q-preserved c =
-    (omega arith, c.loop-q.invariant.1, all_more _ _ c.loop-q.invariant.2 (held c.queue_fits.ensures c.if-not-queue_fits.false-raw))
+pub all-requires-clause-callable : goal.all-requires-clause-callable
+all-requires-clause-callable c =
+    serves_from_Range (λ x b k. search rules) (λ q l h. let known = rw c.channel_count.ensures at h in search rules)
 
 pub returns : goal.returns
 returns c =
-    turns_end _ _ c.loop-q.q (omega (arith, c.loop-q.invariant.1)) (omega (arith, c.loop-q.invariant.1)) c.loop-q.invariant.2
+    rw c.channel_count.ensures at (all_in_range (queue_fits_at c.args.t.now c.args.s.now) c.channel_count.result c.all.ensures.ran (λ x b t k. search rules))

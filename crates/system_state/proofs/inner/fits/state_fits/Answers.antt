@@ -26,10 +26,10 @@ pub returns-then-not-runs_fit : goal.returns-then-not-runs_fit
 unfolding state_fits
 returns-then-not-runs_fit c =
     and_yes (eq-eqb _ _ c.if-s-ne-WORDS.false)
-    (and_yes (in_time (goal.at.returns-then-not-runs_fit c).Else-time_of) (and_no _ (failed c.runs_fit.ensures c.if-not-runs_fit.true-raw)))
+    (and_yes (in_time (goal.at.returns-then-not-runs_fit c).Else-time_of) (and_no _ (failed c.runs_fit.ensures c.if-not-runs_fit.true)))
 
 pub returns : goal.returns
 unfolding state_fits
 returns c =
     and_yes (eq-eqb _ _ c.if-s-ne-WORDS.false)
-    (and_yes (in_time (goal.at.returns c).Else-time_of) (and_yes (held c.runs_fit.ensures c.if-not-runs_fit.false-raw) c.queues_fit.ensures))
+    (and_yes (in_time (goal.at.returns c).Else-time_of) (and_yes (held c.runs_fit.ensures c.if-not-runs_fit.false) c.queues_fit.ensures))

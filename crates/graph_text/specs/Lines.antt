@@ -1,0 +1,23 @@
+-- What is taken of a line.
+use Rattle.std.specs.Prelude.{ℕ, Bool, true, false, ltb, length, drop, List, Option, Some, None, Result, Ok, Err, ⊤}
+use Rattle.graph_text.specs.declared.faults.Fault.{Fault}
+use Rattle.graph_text.specs.declared.faults.Fault.TheVariants.{Bad}
+use Rattle.text.specs.Tokens.{token_of}
+
+-- the token at a place
+abbrev pub token_at : List ℕ → ℕ → List ℕ
+token_at line at = token_of (drop at line)
+
+-- what a token reads as; the line is bad where it reads as nothing
+unfoldable pub given : Option ℕ → Result ℕ Fault
+given (Some n) = Ok n
+given None = Err Bad
+
+-- whether nothing is left
+unfoldable pub at_end : List ℕ → ℕ → Bool
+at_end line at = ltb (length line) at
+
+-- the line is bad where it does not hold
+unfoldable pub held : Bool → Result ⊤ Fault
+held true = Ok tt
+held false = Err Bad
