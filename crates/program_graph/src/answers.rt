@@ -1,4 +1,4 @@
-// Where the processes of a run are: their places, and how many there are.
+// Where the processes of a run are: their places, and how many there are. (Fixed memory: an array with its count, and no heap.)
 use graph_tables::sizes;
 
 #[derive(Clone, Copy)]

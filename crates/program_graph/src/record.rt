@@ -1,4 +1,4 @@
-// A run of one graph as it is handed in and comes back. Slots past its counts are not looked at, and come back as they were.
+// A run of one graph. Slots past its counts are not looked at, and stay as they were. (Fixed memory: arrays with their counts, and no heap.)
 use grammar::values::Slot;
 use graph_tables::sizes;
 

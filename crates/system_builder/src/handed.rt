@@ -11,6 +11,7 @@ pub struct Kind {
     pub kind: Type,
 }
 
+// Fixed memory: an array with its count, and no heap. What a call answers to a count above the room is promised (28).
 #[derive(Clone, Copy)]
 pub struct Kinds {
     pub kinds: [Kind; sizes::MESSAGE],

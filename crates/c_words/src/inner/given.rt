@@ -271,6 +271,7 @@ impl Tell for Event {
     }
 }
 
+// The numbers of C (include/njunnemar.h).
 fn sort_of(capacity: ChannelCapacity) -> u64
     ensures { result ≡ sort_said capacity }
 {

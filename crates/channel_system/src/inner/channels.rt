@@ -148,7 +148,7 @@ fn full_listed(stored: usize, c: ChannelCapacity) -> bool
     }
 }
 
-// Whether a communication is listed.
+// Whether a communication is listed. (A match has each test beside its message, which a table of closures would not say more plainly.)
 pub fn list_test(m: Message, stored: usize, c: ChannelCapacity) -> bool
     ensures { result ≡ list_test m stored c }
 {

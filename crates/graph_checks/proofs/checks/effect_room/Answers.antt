@@ -9,5 +9,5 @@ all_draws-requires c =
       f.words,
       omega (arith, f.counts.actions, c.requires.1),
       omega (arith, ltb-true _ _ (unless_on _ _ _ (sym c.in_ok-room_for.ensures)).0),
-      λ e l. (((f.action _ c.requires.1).plain c.requires.2).effect e (rw c.effect_count-n.ensures at l)).expression.short,
+      λ e l. (((f.action _ c.requires.1).plain c.requires.2).effect e (omega (arith, l, c.effect_count-n.ensures))).expression.short,
     )
