@@ -7,7 +7,7 @@ use graph_text::messages;
 use graph_text::messages::Sizes;
 
 // EXPR..
-pub fn send<F: FnOnce(usize, &[u64], &[u64], &[u64], &[u64]) -> Answer<u32>>(
+pub(crate) fn send<F: FnOnce(usize, &[u64], &[u64], &[u64], &[u64]) -> Answer<u32>>(
     line: Line,
     new_send: F,
 ) -> Result<u32, Fault>
@@ -24,7 +24,10 @@ pub fn send<F: FnOnce(usize, &[u64], &[u64], &[u64], &[u64]) -> Answer<u32>>(
 }
 
 // V..
-pub fn receive<F: FnOnce(Vars) -> Answer<u32>>(line: Line, new_receive: F) -> Result<u32, Fault>
+pub(crate) fn receive<F: FnOnce(Vars) -> Answer<u32>>(
+    line: Line,
+    new_receive: F,
+) -> Result<u32, Fault>
     requires { F.IsAlwaysCallable new_receive }
 {
     Ok(new_receive(messages::read_vars(line)?)?)
