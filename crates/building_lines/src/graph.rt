@@ -30,6 +30,7 @@ fn answered(mut line: Line, t: &mut [u64], out: &mut Reply) -> Result<(), Fault>
 
 // Every line behind `g` but `g new`.
 pub fn answer(line: Line, t: &mut [u64], out: &mut Reply) {
+    out.begin();
     let told = answered(line, t, out);
     out.tell(told);
 }

@@ -56,6 +56,7 @@ fn answered(mut line: Line, t: &mut [u64], out: &mut Reply) -> Result<(), Fault>
 
 // Every line behind `s` but `s new`.
 pub fn answer(line: Line, t: &mut [u64], out: &mut Reply) {
+    out.begin();
     let told = answered(line, t, out);
     out.tell(told);
 }

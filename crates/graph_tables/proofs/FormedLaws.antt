@@ -1,21 +1,16 @@
 -- What a table that is well formed says of its parts.
-use Prim.Native.Nat.{ℕ, zero, suc, ◌+◌, ◌/◌, ◌%◌, ◌≤◌, ◌<◌}
+use Prim.Native.Nat.{ℕ, ◌+◌, ◌*◌, ◌/◌, ◌%◌, ◌≤◌, ◌<◌}
 use mathlib.Core.Path.{◌≡◌, refl, sym, ap, ◌∙◌}
 use mathlib.Core.Bool.{Bool, true, false, cond}
-use mathlib.Core.List.{List, map}
+use mathlib.Core.List.{List}
 use native.Mathlib.Decide.{dec_lt}
 use native.Mathlib.Omega.{arith}
 use borrow.Author.Tests.{ltb-true, leb-true, eqb-true, eq-eqb, ne_eqb, lt-ltb, le-ltb, le-leb, lt-leb}
 use lib.Dec.{eqb, ltb, leb}
 use lib.ListN.{length, take, drop, length-take, length-drop}
-use Rattle.std.specs.Iterator.{Drains}
-use Rattle.std.specs.List.{range_with_len, fold}
-use Rattle.std.specs.declared.option.Option.{Option}
-use Rattle.std.proofs.lemmas.Iterator.{YieldsList}
 use Rattle.laws.specs.Below.{◌and◌, all_below, sum_below}
-use Rattle.laws.proofs.BelowLaws.{and_yes, and_no, and_first, and_rest, all_none, all_more, all_fails, all_done, all_at, sum_same}
-use Rattle.laws.proofs.RangeSums.{sum_in_range}
-use Rattle.laws.proofs.Tests.{held, failed, never}
+use Rattle.laws.proofs.BelowLaws.{and_yes, and_no, and_first, and_rest, all_none, all_more, all_fails, all_done, all_at, sum_none, sum_more}
+use Rattle.laws.proofs.Tests.{held, failed}
 use Rattle.grammar.specs.Draws.{draws_of}
 use Rattle.grammar.specs.Typing.{type_of, typed_as, is_typed}
 use Rattle.grammar.specs.Inner.{known_in, is_of, is_known, draws_told, guards_of}
@@ -49,37 +44,34 @@ draws_not x e = rw e
 pub draws_told_lem : {b : Bool} {r x : ℕ} → b ≡ true → r ≡ x → r ≡ draws_if b x
 draws_told_lem e q = rw e q
 
-pub draws_few_if : (b : Bool) (x : ℕ) → (b ≡ true → x ≤ draw_room) → draws_if b x ≤ draw_room + 1
-draws_few_if true x few = omega (arith, few refl)
-draws_few_if false x few = omega arith
+told_not : (b : Bool) (r x : ℕ) → (b ≡ true → x ≤ draw_room) → r ≡ draws_if b x → draw_room < r → b ≡ false
+told_not true r x few e h = absurd (omega (arith, few refl))
+told_not false r x few e h = refl
+
+told : (b : Bool) (r x : ℕ) → r ≡ draws_if b x → r ≤ draw_room → (b ≡ true) × (r ≡ x)
+told true r x e h = (refl, e)
+told false r x e h = absurd (omega arith)
 
 module _ (p : ℕ → Bool) (d : ℕ → ℕ) where
-  draws_all : (n : ℕ) → all_below n p ≡ true → sum_below n (λ i. draws_if (p i) (d i)) ≡ sum_below n d
-  draws_all n h = sum_same _ d n (λ i l. rw (all_at p n i h l))
+  abbrev pub Sums : ℕ → ℕ → ℕ → Type 0
+  Sums n sum i = (i ≤ n) × (sum ≤ draw_room * i) × (all_below i p ≡ true) × (sum ≡ sum_below i d)
 
-  draws_over : (n : ℕ) → all_below n p ≡ false → draw_room < sum_below n (λ i. draws_if (p i) (d i))
-  unfolding all_below sum_below ◌and◌
-  draws_over zero h = never (sym h)
-  draws_over (suc n) h = by (all_below n p) (draws_over n) h
-    where
-      by : (b : Bool) → (b ≡ false → draw_room < sum_below n (λ i. draws_if (p i) (d i))) → (b and p n) ≡ false
-          → draw_room < sum_below n (λ i. draws_if (p i) (d i)) + draws_if (p n) (d n)
-      by true below q = rw q (omega arith)
-      by false below q = omega (arith, below refl)
+  pub sums_none : (n : ℕ) → Sums n 0 0
+  sums_none n = (omega arith, omega arith, all_none p, sym (sum_none d))
 
-  -- the draws of what is well formed, and more than there is room for where something is not
-  draws_within : (n : ℕ) → leb (sum_below n (λ i. draws_if (p i) (d i))) draw_room ≡ all_within n p d
-  draws_within n = by (all_below n p) refl
-    where
-      by : (b : Bool) → all_below n p ≡ b → leb (sum_below n (λ i. draws_if (p i) (d i))) draw_room ≡ all_within n p d
-      by true e = and_yes e (ap (λ (k : ℕ). leb k draw_room) (draws_all n e))
-      by false e = lt-leb _ _ (draws_over n e) ∙ and_no _ e
+  pub sums_fail : (few : (i : ℕ) → p i ≡ true → d i ≤ draw_room) (n i r : ℕ) → i < n → r ≡ draws_if (p i) (d i) → draw_room < r
+      → false ≡ all_within n p d
+  sums_fail few n i r l e h = and_no _ (all_fails p n i l (told_not (p i) r (d i) (few i) e h))
 
-  -- what a sum over a range of what is told says
-  pub draws_summed : {S : Type 0} {steps : S → Option ℕ → S → Type 0} (n : ℕ) (s : S) (r : ℕ)
-      → ((xs : List ℕ) × (Unit {0} → Drains steps s xs) × (r ≡ fold (λ a x. a + x) 0 xs))
-      → YieldsList steps (λ x. x) s (map (λ i. draws_if (p i) (d i)) (range_with_len 0 n)) → leb r draw_room ≡ all_within n p d
-  draws_summed n s r ran chain = ap (λ (k : ℕ). leb k draw_room) (sum_in_range _ n s r ran chain) ∙ draws_within n
+  pub sums_more : (n i r sum : ℕ) → i < n → Sums n sum i → r ≡ draws_if (p i) (d i) → r ≤ draw_room → Sums n (sum + r) (i + 1)
+  sums_more n i r sum l s e h =
+      let q = told (p i) r (d i) e h in
+      (omega arith, omega (arith, s.1), all_more p i s.2 q.0, omega (arith, s.3, q.1, sum_more d i))
+
+  pub sums_end : (n i sum : ℕ) → n ≤ i → Sums n sum i → leb sum draw_room ≡ all_within n p d
+  sums_end n i sum m s =
+      let q : i ≡ n = omega (arith, s.0) in
+      and_yes (all_done p n i s.0 m s.2) (ap (λ (k : ℕ). leb k draw_room) (s.3 ∙ ap (λ (k : ℕ). sum_below k d) q))
 
 -- ---- an expression, by the number that says its kind and its draws
 module _ (t : List ℕ) (n from : ℕ) where

@@ -208,6 +208,22 @@ fn effect_draws(t: &[u64], a: usize, e: usize) -> usize
     digits::draws_in(known)
 }
 
+// Whether each of the first n effects is well formed, and their draws have room. (A loop that stops at the first that is not well formed: the sum of a chain would read all.)
+fn effects_formed(t: &[u64], a: usize, n: usize) -> bool
+    requires { Words t.now × (variable_count t.now ≤ variable_room) × KindsFit t.now × (a < action_room) × (n ≤ effect_room) }
+    ensures { result ≡ all_within n (effect_formed t.now a) (effect_draws t.now a) }
+{
+    let mut sum: usize = 0;
+    for e in 0..n {
+        let draws = effect_draws(t, a, e);
+        if sizes::DRAWS < draws {
+            return false;
+        }
+        sum += draws;
+    }
+    sum <= sizes::DRAWS
+}
+
 #[tactic(auto, using(laws::proofs::BelowLaws::and_yes, laws::proofs::BelowLaws::and_no), unfolding(crate::specs::Formed::plain_formed))]
 fn plain_formed(t: &[u64], a: usize) -> bool
     requires { Words t.now × (variable_count t.now ≤ variable_room) × KindsFit t.now × (a < action_room) }
@@ -220,7 +236,7 @@ fn plain_formed(t: &[u64], a: usize) -> bool
     if sizes::EFFECTS < n {
         return false;
     }
-    (0..n).map(|e| effect_draws(t, a, e)).sum::<usize>() <= sizes::DRAWS
+    effects_formed(t, a, n)
 }
 
 #[tactic(auto, using(crate::proofs::FormedLaws::draws_not, crate::proofs::FormedLaws::draws_told_lem, crate::proofs::FormedLaws::expression_known, crate::proofs::FormedLaws::expression_told))]
@@ -235,6 +251,22 @@ fn expression_draws(t: &[u64], a: usize, e: usize) -> usize
     digits::draws_in(known)
 }
 
+// The same of the expressions of a message.
+fn expressions_formed(t: &[u64], a: usize, n: usize) -> bool
+    requires { Words t.now × (variable_count t.now ≤ variable_room) × KindsFit t.now × (a < action_room) × (n ≤ effect_room) }
+    ensures { result ≡ all_within n (expression_formed t.now a) (effect_draws t.now a) }
+{
+    let mut sum: usize = 0;
+    for e in 0..n {
+        let draws = expression_draws(t, a, e);
+        if sizes::DRAWS < draws {
+            return false;
+        }
+        sum += draws;
+    }
+    sum <= sizes::DRAWS
+}
+
 #[tactic(auto, using(laws::proofs::BelowLaws::and_yes, laws::proofs::BelowLaws::and_no), unfolding(crate::specs::Formed::send_formed))]
 fn send_formed(t: &[u64], a: usize) -> bool
     requires { Words t.now × (variable_count t.now ≤ variable_room) × KindsFit t.now × (a < action_room) }
@@ -247,7 +279,7 @@ fn send_formed(t: &[u64], a: usize) -> bool
     if sizes::MESSAGE < n {
         return false;
     }
-    (0..n).map(|e| expression_draws(t, a, e)).sum::<usize>() <= sizes::DRAWS
+    expressions_formed(t, a, n)
 }
 
 #[tactic(auto, using(laws::proofs::BelowLaws::and_yes, laws::proofs::BelowLaws::and_no), unfolding(crate::specs::Formed::target_formed))]

@@ -4,6 +4,7 @@
 
 pub mod faults;
 pub mod guards;
+pub mod inner;
 pub mod limits;
 pub mod lines;
 pub mod lists;

@@ -1,6 +1,6 @@
 // A line, and how far it is taken. What stands in it is taken token by token.
-ghost use Rattle.std.specs.Prelude.{◌≡◌, ◌≤◌};
-ghost use Rattle.graph_text.specs.Lines.{token_at, given, at_end, held};
+ghost use Rattle.std.specs.Prelude.{◌≡◌};
+ghost use Rattle.graph_text.specs.Lines.{token_at, given, at_end, held, past_if, alone};
 ghost use Rattle.text.specs.Numbers.{small_of, number_of};
 ghost use Rattle.text.specs.Tokens.{next_of, same_bytes};
 
@@ -26,13 +26,20 @@ impl<'a> Line<'a> {
     }
 
     // Takes the token that comes next.
+    #[tactic(auto, unfolding(text::specs::Tokens::next_of))]
     pub fn next(&mut self) -> &'a [u8]
         ensures token { result.now ≡ token_at self.old.bytes.now self.old.at }
         ensures after { self.new.at ≡ next_of self.old.bytes.now self.old.at }
         ensures line { self.new.bytes ≡ self.old.bytes }
     {
         let token = tokens::token(self.bytes, self.at);
-        self.at = tokens::next(self.bytes, self.at);
+        // (`tokens::next` would go over the token again.)
+        let end = self.at + token.len();
+        self.at = if end < self.bytes.len() {
+            end + 1
+        } else {
+            self.bytes.len() + 1
+        };
         token
     }
 
@@ -57,7 +64,9 @@ impl<'a> Line<'a> {
 
     // Takes a word, if it comes next.
     pub fn took(&mut self, word: &[u8]) -> bool
-        ensures { result ≡ same_bytes (token_at self.old.bytes.now self.old.at) word.now }
+        ensures value { result ≡ same_bytes (token_at self.old.bytes.now self.old.at) word.now }
+        ensures after { self.new.at ≡ past_if result self.old.bytes.now self.old.at }
+        ensures line { self.new.bytes ≡ self.old.bytes }
     {
         let mut line = *self;
         let is = tokens::is(line.next(), word);
@@ -70,21 +79,14 @@ impl<'a> Line<'a> {
     // Takes a word, which has to come next.
     #[tactic(auto, unfolding(crate::specs::Lines::held))]
     pub fn word(&mut self, word: &[u8]) -> Result<(), Fault>
-        ensures { result ≡ held (same_bytes (token_at self.old.bytes.now self.old.at) word.now) }
+        ensures value { result ≡ held (same_bytes (token_at self.old.bytes.now self.old.at) word.now) }
+        ensures after { self.new.at ≡ past_if (same_bytes (token_at self.old.bytes.now self.old.at) word.now) self.old.bytes.now self.old.at }
+        ensures line { self.new.bytes ≡ self.old.bytes }
     {
         if !self.took(word) {
             return Err(Fault::Bad);
         }
         Ok(())
-    }
-
-    // Takes what a token reads as.
-    pub fn read<T, R: FnOnce(&[u8]) -> Option<T>>(&mut self, read: R) -> Result<T, Fault>
-        requires { R.IsAlwaysCallable read }
-        ensures after { self.new.at ≡ next_of self.old.bytes.now self.old.at }
-        ensures line { self.new.bytes ≡ self.old.bytes }
-    {
-        read(self.next()).ok_or(Fault::Bad)
     }
 
     // A number of 32 bits.
@@ -98,7 +100,10 @@ impl<'a> Line<'a> {
     }
 
     // A number of 32 bits, and nothing behind it.
-    pub fn last_number(mut self) -> Result<u32, Fault> {
+    #[tactic(auto, unfolding(crate::specs::Lines::alone, crate::specs::Lines::given, crate::specs::Lines::held))]
+    pub fn last_number(mut self) -> Result<u32, Fault>
+        ensures { result ≡ alone self.entry.bytes.now self.entry.at (small_of (token_at self.entry.bytes.now self.entry.at)) }
+    {
         let n = self.number()?;
         self.end()?;
         Ok(n)
@@ -115,7 +120,10 @@ impl<'a> Line<'a> {
     }
 
     // A number of 64 bits, and nothing behind it.
-    pub fn last_wide(mut self) -> Result<u64, Fault> {
+    #[tactic(auto, unfolding(crate::specs::Lines::alone, crate::specs::Lines::given, crate::specs::Lines::held))]
+    pub fn last_wide(mut self) -> Result<u64, Fault>
+        ensures { result ≡ alone self.entry.bytes.now self.entry.at (number_of 20 18446744073709551615 (token_at self.entry.bytes.now self.entry.at)) }
+    {
         let n = self.wide()?;
         self.end()?;
         Ok(n)
@@ -127,36 +135,6 @@ impl<'a> Line<'a> {
         let Read { count, next } = read.ok_or(Fault::Bad)?;
         self.at = next;
         Ok(rows::part(words, count))
-    }
-
-    // Takes the items of a list, as far as they are read.
-    pub fn list<T: Copy, const N: usize, R: Fn(&[u8]) -> Option<T>>(
-        &mut self,
-        blank: T,
-        read: R,
-    ) -> List<T, N>
-        requires { R.IsAlwaysCallable read }
-        ensures after { self.new.at ≡ result.next }
-        ensures line { self.new.bytes ≡ self.old.bytes }
-        ensures room { result.count ≤ N }
-    {
-        let list = lists::read_list(self.bytes, self.at, blank, read);
-        self.at = list.next;
-        list
-    }
-
-    // Takes a list in parentheses.
-    pub fn group<T: Copy, const N: usize, R: Fn(&[u8]) -> Option<T>>(
-        &mut self,
-        blank: T,
-        read: R,
-    ) -> Result<List<T, N>, Fault>
-        requires { R.IsAlwaysCallable read }
-    {
-        self.word(b"(")?;
-        let list = self.list(blank, read);
-        self.word(b")")?;
-        Ok(list)
     }
 
     // Takes values, as far as they are read, 16 at most.

@@ -3,6 +3,7 @@ use crate::faults::Fault;
 use crate::lines::Line;
 use crate::lists;
 use graph_tables::layout::WORD32;
+use text::inner::read_list;
 use text::lists::List;
 use text::numbers;
 
@@ -44,7 +45,12 @@ fn read_post(token: &[u8]) -> Option<u64> {
     Some(post(numbers::read_small(graph)?, numbers::read_small(location)?))
 }
 
-// ( G:L .. ), the words of posts, 8 at most, as a step takes them.
-pub fn read_posts(line: &mut Line) -> Result<List<u64, POSTS>, Fault> {
+// The posts from a place on, 8 at most.
+pub fn read_posts(line: &[u8], at: usize) -> List<u64, POSTS> {
+    read_list(line, at, 0, read_post)
+}
+
+// ( G:L .. ), as a step takes them.
+pub fn take_posts(line: &mut Line) -> Result<List<u64, POSTS>, Fault> {
     line.group(0, read_post)
 }

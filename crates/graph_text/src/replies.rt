@@ -1,5 +1,5 @@
 // What a line is answered, written into lent bytes; what has no room is left out.
-ghost use Rattle.std.specs.Prelude.{[], ◌∷◌};
+ghost use Rattle.std.specs.Prelude.{◌≡◌, [], ◌∷◌, take};
 ghost use Rattle.text.specs.Writing.{Put, number_text, integer_text, value_text, bound_text};
 
 use crate::faults::Fault;
@@ -16,47 +16,69 @@ pub struct Reply<'a> {
 }
 
 impl<'a> Reply<'a> {
-    pub fn new(out: &'a mut [u8]) -> Reply<'a> {
+    // Nothing of it is written.
+    pub fn new(out: &'a mut [u8]) -> Reply<'a>
+        ensures bytes { result.out.now ≡ out.old }
+        ensures start { result.length ≡ 0 }
+        ensures same_reference { result.out.ghost_name ≡ out.entry.ghost_name }
+    {
         Reply { out, length: 0 }
     }
 
+    // Whatever is written is given up: an answer begins.
+    pub fn begin(&mut self)
+        ensures start { self.new.length ≡ 0 }
+        ensures bytes { self.new.out.now ≡ self.old.out.now }
+        ensures same_reference { self.new.out.ghost_name ≡ self.old.out.ghost_name }
+    {
+        self.length = 0;
+    }
+
     // What is written.
-    pub fn written(&self) -> &[u8] {
+    pub fn written(&self) -> &[u8]
+        ensures { result.now ≡ take self.now.length self.now.out.now }
+    {
         rows::part(self.out, self.length)
     }
 
     pub fn put(&mut self, byte: u8)
-        ensures { Put self.old.out.now self.old.length (byte ∷ []) self.new.out.now self.new.length }
+        ensures put { Put self.old.out.now self.old.length (byte ∷ []) self.new.out.now self.new.length }
+        ensures same_reference { self.new.out.ghost_name ≡ self.old.out.ghost_name }
     {
         self.length = output::put(self.out, self.length, byte);
     }
 
     pub fn put_all(&mut self, bytes: &[u8])
-        ensures { Put self.old.out.now self.old.length bytes.now self.new.out.now self.new.length }
+        ensures put { Put self.old.out.now self.old.length bytes.now self.new.out.now self.new.length }
+        ensures same_reference { self.new.out.ghost_name ≡ self.old.out.ghost_name }
     {
         self.length = output::put_all(self.out, self.length, bytes);
     }
 
     pub fn put_number(&mut self, n: u64)
-        ensures { Put self.old.out.now self.old.length (number_text n) self.new.out.now self.new.length }
+        ensures put { Put self.old.out.now self.old.length (number_text n) self.new.out.now self.new.length }
+        ensures same_reference { self.new.out.ghost_name ≡ self.old.out.ghost_name }
     {
         self.length = output::put_number(self.out, self.length, n);
     }
 
     pub fn put_integer(&mut self, n: i32)
-        ensures { Put self.old.out.now self.old.length (integer_text n) self.new.out.now self.new.length }
+        ensures put { Put self.old.out.now self.old.length (integer_text n) self.new.out.now self.new.length }
+        ensures same_reference { self.new.out.ghost_name ≡ self.old.out.ghost_name }
     {
         self.length = output::put_integer(self.out, self.length, n);
     }
 
     pub fn put_value(&mut self, value: Val)
-        ensures { Put self.old.out.now self.old.length (value_text value) self.new.out.now self.new.length }
+        ensures put { Put self.old.out.now self.old.length (value_text value) self.new.out.now self.new.length }
+        ensures same_reference { self.new.out.ghost_name ≡ self.old.out.ghost_name }
     {
         self.length = output::put_value(self.out, self.length, value);
     }
 
     pub fn put_bound(&mut self, bound: Bound)
-        ensures { Put self.old.out.now self.old.length (bound_text bound) self.new.out.now self.new.length }
+        ensures put { Put self.old.out.now self.old.length (bound_text bound) self.new.out.now self.new.length }
+        ensures same_reference { self.new.out.ghost_name ≡ self.old.out.ghost_name }
     {
         self.length = output::put_bound(self.out, self.length, bound);
     }
@@ -113,6 +135,7 @@ impl<'a> Reply<'a> {
     }
 
     pub fn ok_value(&mut self, value: Val) {
+        self.begin();
         self.put_all(b"ok");
         self.put_next_value(value);
         self.end();
@@ -123,6 +146,7 @@ impl<'a> Reply<'a> {
     }
 
     pub fn kind(&mut self, kind: Type) {
+        self.begin();
         match kind {
             Type::Boolean => self.put_all(b"ok b\n"),
             Type::Integer => self.put_all(b"ok i\n"),

@@ -14,6 +14,7 @@ pub fn put_entry(out: &mut Reply, e: Entry) {
 }
 
 pub fn past_end(out: &mut Reply) {
+    out.begin();
     out.put_all(b"end\n");
 }
 
@@ -21,12 +22,14 @@ pub fn listed(out: &mut Reply, listed: Option<Entry>) {
     let Some(e) = listed else {
         return past_end(out);
     };
+    out.begin();
     out.put_all(b"ok");
     put_entry(out, e);
     out.end();
 }
 
 pub fn states(out: &mut Reply, s: Places) {
+    out.begin();
     out.put_all(b"ok");
     out.put_numbers(&s.places, s.count);
     out.end();
@@ -38,6 +41,7 @@ pub fn put_message(out: &mut Reply, message: Message) {
 }
 
 pub fn sent(out: &mut Reply, message: Message) {
+    out.begin();
     out.put_all(b"ok");
     put_message(out, message);
     out.end();

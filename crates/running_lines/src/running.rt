@@ -82,6 +82,7 @@ fn answered(
 
 // Every line behind `r`. The run is left as the call leaves it.
 pub fn answer(line: Line, t: &[u64], run: &mut ProgramGraphRun, out: &mut Reply) {
+    out.begin();
     let told = answered(line, t, run, out);
     out.tell(told);
 }

@@ -30,6 +30,7 @@ pub fn show(t: &[u64], run: &ProgramGraphRun, out: &mut Reply) -> Result<(), Fau
     if t.len() != sizes::WORDS {
         return Err(Fault::Bad);
     }
+    out.begin();
     put_first(
         out,
         run,

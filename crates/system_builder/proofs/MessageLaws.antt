@@ -1,8 +1,9 @@
 -- What the checks of sends, receives and probes say.
-use Rattle.graph_tables.specs.Answers.{admitted}
+use Rattle.std.specs.Prelude.{⊤}
+use Rattle.graph_tables.specs.Answers.{Answer, admitted}
 use Prim.Native.Nat.{ℕ, ◌<◌}
 use mathlib.Core.Path.{◌≡◌}
-use mathlib.Core.Bool.{true}
+use mathlib.Core.Bool.{Bool, true, false}
 use mathlib.Core.List.{List}
 use native.Mathlib.Omega.{arith}
 use borrow.Author.Tests.{ltb-true}
@@ -19,9 +20,22 @@ use Rattle.system_tables.specs.Sizes.{graph_room, channel_room}
 use Rattle.system_tables.specs.Words.{SystemWords, channel_count, graph_part}
 use Rattle.system_tables.proofs.KeptLaws.{apart}
 use Rattle.system_builder.specs.Graphs.{member_check}
-use Rattle.system_builder.specs.Messages.{known_check, send_check_on, receive_check_on}
+use Rattle.system_builder.specs.Messages.{known_check, if_read, send_check_on, receive_check_on}
 use Rattle.system_builder.proofs.SystemLaws.{member_ready}
 use Rattle.system_builder.proofs.ActionLaws.{part_formed}
+
+-- ---- the kinds are asked where the list can be read
+pub if_long : {few : Bool} (each : Bool) (check : Answer ⊤) → few ≡ false → admitted ≡ if_read few each check
+unfolding if_read
+if_long each check e = rw e
+
+pub if_unread : {few each : Bool} (check : Answer ⊤) → few ≡ true → each ≡ false → admitted ≡ if_read few each check
+unfolding if_read
+if_unread check e h = rw (e, h)
+
+pub if_read_lem : {few each : Bool} {r check : Answer ⊤} → few ≡ true → each ≡ true → r ≡ check → r ≡ if_read few each check
+unfolding if_read
+if_read_lem e h k = rw (e, h) k
 
 -- ---- the variables of a receive are there
 pub vars_known : (G : List ℕ) (v : Vars) (e : ℕ) → all_below v.count (var_known G v) ≡ true → e < v.count → handed_var v e < variable_count G

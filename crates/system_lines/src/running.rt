@@ -78,6 +78,7 @@ fn answered(mut line: Line, t: &[u64], s: &mut [u64], out: &mut Reply) -> Result
 
 // Every line behind `t`.
 pub fn answer(line: Line, t: &[u64], s: &mut [u64], out: &mut Reply) {
+    out.begin();
     let told = answered(line, t, s, out);
     out.tell(told);
 }

@@ -15,7 +15,7 @@ pub fn step(mut line: Line, t: &[u64], s: &mut [u64], out: &mut Reply) -> Result
     let g = PgId(line.number()?);
     let Pair { graph, own } = line.read(pairs::read_action)?;
     let action = Action(PgId(graph), ids::Action(own));
-    let posts = pairs::read_posts(&mut line)?;
+    let posts = pairs::take_posts(&mut line)?;
     let word = line.last_wide()?;
     let part = rows::part(&posts.items, posts.count);
     let event = run::transition(t, s, g, action, part, word)?;

@@ -5,6 +5,7 @@
 
 pub mod answers;
 pub mod bounds;
+pub mod inner;
 pub mod items;
 pub mod lines;
 pub mod lists;

@@ -1,6 +1,5 @@
 // Lists of tokens of one kind, up to a token that is none of it; and kinds, a token with a letter for each.
-ghost use Rattle.std.specs.Prelude.{◌≤◌};
-
+use crate::inner::read_list;
 use crate::{numbers, tokens, values};
 use grammar::values::{Slot, Val};
 
@@ -10,32 +9,6 @@ pub struct List<T, const N: usize> {
     pub items: [T; N],
     pub count: usize,
     pub next: usize,
-}
-
-// The items from a place on, as many as there is room for. (How many there are is answered, so the loop counts them.)
-pub fn read_list<T: Copy, const N: usize, R: Fn(&[u8]) -> Option<T>>(
-    line: &[u8],
-    at: usize,
-    blank: T,
-    read: R,
-) -> List<T, N>
-    requires { R.IsAlwaysCallable read }
-    ensures { result.count ≤ N }
-{
-    let mut items = [blank; N];
-    let mut next = at;
-    for count in 0..N {
-        let Some(item) = read(tokens::token(line, next)) else {
-            return List { items, count, next };
-        };
-        items[count] = item;
-        next = tokens::next(line, next);
-    }
-    List {
-        items,
-        count: N,
-        next,
-    }
 }
 
 fn read_slot(token: &[u8]) -> Option<Slot> {

@@ -22,7 +22,7 @@ fn answered<'a>(
     let g = PgId(line.number()?);
     let Pair { graph, own } = line.read(pairs::read_action)?;
     let action = Action(PgId(graph), ids::Action(own));
-    let posts = pairs::read_posts(&mut line)?;
+    let posts = pairs::take_posts(&mut line)?;
     let word = line.last_wide()?;
     let asked = rows::part(&posts.items, posts.count);
     let mut told = [0u64; TOLD];
@@ -40,6 +40,7 @@ pub fn answer<'a>(
     limits: &'a [u64],
     out: &mut Reply,
 ) {
+    out.begin();
     let told = answered(line, t, s, guards, limits, out);
     out.tell(told);
 }

@@ -32,5 +32,8 @@ pub(crate) fn write_words(t: &mut [u64], at: usize, row: &[u64])
     requires { at + length row.now ≤ length t.old }
     ensures { t.new ≡ pasted_at t.old at row.now }
 {
-    t[at..at + row.len()].copy_from_slice(row);
+    // (`copy_from_slice` makes the archive for C need `memmove`.)
+    for k in 0..row.len() {
+        t[at + k] = row[k];
+    }
 }
